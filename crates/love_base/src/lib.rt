@@ -2,12 +2,26 @@
 //! stamp of an entry, and the traits through which the runtime meets the world outside.
 #![tactic(auto)]
 
+mod count_sink;
+mod file_table;
+mod folder;
 mod list;
+mod mem_folder;
+mod mem_sink;
 mod memory;
+mod quiet_folder;
+mod script;
+mod sink;
 mod stamp;
 mod text;
 
+pub use count_sink::CountSink;
+pub use folder::{Folder, FolderErr};
 pub use list::List;
+pub use mem_folder::MemFolder;
+pub use mem_sink::MemSink;
 pub use memory::Memory;
+pub use quiet_folder::QuietFolder;
+pub use sink::{Sink, SinkErr};
 pub use stamp::Stamp;
 pub use text::Text;
