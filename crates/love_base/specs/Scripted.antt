@@ -25,10 +25,10 @@ fails_next script = list_any (nat_eq (next_count script.calls)) script.fails
 -- the script after a call that fails, or doesn't
 abbrev pub after_call : Script → Script
 after_call script = record {
-    fails = script.fails;
-    calls = next_count script.calls;
-    faults = if fails_next script then next_count script.faults else script.faults
-  }
+  fails = script.fails;
+  calls = next_count script.calls;
+  faults = if fails_next script then next_count script.faults else script.faults;
+}
 
 -- a folder in memory
 pub record ScriptedFolder : Type 0 where

@@ -5,15 +5,19 @@
 mod count_sink;
 mod file_table;
 mod folder;
+mod folder_walk;
 mod list;
 mod mem_folder;
 mod mem_sink;
 mod memory;
 mod quiet_folder;
+mod real_folder;
+mod real_sink;
 mod script;
 mod sink;
 mod stamp;
 mod text;
+mod text_order;
 
 pub use count_sink::CountSink;
 pub use folder::{Folder, FolderErr};
@@ -22,6 +26,8 @@ pub use mem_folder::MemFolder;
 pub use mem_sink::MemSink;
 pub use memory::Memory;
 pub use quiet_folder::QuietFolder;
+pub use real_folder::RealFolder;
+pub use real_sink::RealSink;
 pub use sink::{Sink, SinkErr};
 pub use stamp::Stamp;
 pub use text::Text;

@@ -46,7 +46,7 @@ module _ (From To : RattleType) (along : From.Denot → To.Denot) where
       (invariant From.Denot) (invariant To.Denot) (λ fields p q. refl) (λ fields p q. refl) (λ fields e. tt) (λ fields e. tt)
       (over (inside.the_row From)) (over (inside.the_row To))
       (struct_places (inside.the_type From) (inside.the_type To) (vector.mapped along, tt) _ (λ fields. refl) refl
-          (laid _ _ _ (vector.the_places global.the_row ghosts From To along alike), tt))
+      (laid _ _ _ (vector.the_places global.the_row ghosts From To along alike), tt))
 
   pub the_codes_placed : Recodes From To along → Recodes (contract.the_row From) (contract.the_row To) ((the_former this).map From.Denot To.Denot along)
   the_codes_placed recodes items = sym (code_map From.coded.code To.coded.code along (λ x. sym (recodes x)) items)

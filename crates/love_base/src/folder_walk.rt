@@ -1,0 +1,137 @@
+ghost use Rattle.std.specs.Prelude.{IfOk, nat_eq};
+ghost use Rattle.std.specs.List.{IsDistinct};
+ghost use Rattle.std.specs.Cmp.Lexicographic.{pointwise};
+
+use crate::{FolderErr, Memory, Text};
+use std::alloc::{AllocError, AllocFailed, Global};
+use std::fs::DirEntry;
+use std::rt::Files;
+use std::{fs, io};
+
+// How deep folders may be nested below the one that is listed.
+const DEEPEST: u8 = 16;
+
+impl From<AllocError> for FolderErr {
+    fn from(_refused: AllocError) -> FolderErr {
+        FolderErr::Memory
+    }
+}
+
+impl<T: Drop> From<AllocFailed<T>> for FolderErr {
+    fn from(_refused: AllocFailed<T>) -> FolderErr {
+        FolderErr::Memory
+    }
+}
+
+impl From<io::Error> for FolderErr {
+    fn from(fault: io::Error) -> FolderErr {
+        match fault.kind() {
+            io::ErrorKind::OutOfMemory => FolderErr::Memory,
+            _ => FolderErr::Failed,
+        }
+    }
+}
+
+// The text where it is UTF-8, as every path of the file system has to be.
+pub fn utf8(text: &Text) -> Result<&str, FolderErr> {
+    match str::from_utf8(text.bytes()) {
+        Ok(text) => Ok(text),
+        Err(_) => Err(FolderErr::Failed),
+    }
+}
+
+// The paths of the regular files below a folder, in byte order, no two alike.
+pub fn list_files<R: Files + AllocGlobal + Clone + Drop>(
+    rt: &R,
+    alloc: Global,
+    at: &Text,
+) -> Result<Vec<Text>, FolderErr>
+    ensures { IfOk result (λ names. IsDistinct (pointwise nat_eq) names.items) }
+{
+    let mut names = walk(rt, alloc, utf8(at)?)?;
+    names.sort()?;
+    names.dedup();
+    Ok(names)
+}
+
+// The paths of the files below `root`, level by level, so that no deeper nesting takes more of the stack.
+fn walk<R: Files + AllocGlobal + Clone + Drop>(
+    rt: &R,
+    alloc: Global,
+    root: &str,
+) -> Result<Vec<Text>, FolderErr> {
+    let mut names = Vec::new(alloc);
+    let mut folders = Vec::new(alloc);
+    folders.push(String::new(alloc))?;
+    for _ in 0..=DEEPEST {
+        folders = open_all(rt, alloc, root, &folders, &mut names)?;
+    }
+    if folders.is_empty() {
+        Ok(names)
+    } else {
+        Err(FolderErr::Failed)
+    }
+}
+
+// Adds the files right in these folders to `names`, and gives the folders right in them. A folder's path
+// ends in `/`; that of the root is empty.
+fn open_all<R: Files + AllocGlobal + Clone + Drop>(
+    rt: &R,
+    alloc: Global,
+    root: &str,
+    folders: &[String],
+    names: &mut Vec<Text>,
+) -> Result<Vec<String>, FolderErr> {
+    let mut inner = Vec::new(alloc);
+    for folder in folders {
+        open_one(rt, alloc, root, folder.as_str(), names, &mut inner)?;
+    }
+    Ok(inner)
+}
+
+fn open_one<R: Files + AllocGlobal + Clone + Drop>(
+    rt: &R,
+    alloc: Global,
+    root: &str,
+    folder: &str,
+    names: &mut Vec<Text>,
+    inner: &mut Vec<String>,
+) -> Result<(), FolderErr> {
+    for entry in fs::read_dir(rt, format!(in alloc; "{root}/{folder}")?)? {
+        let entry = entry?;
+        let name = entry.file_name();
+        match kind_of(rt, &entry)? {
+            Kind::File => names.push(path_of(alloc, folder, name)?)?,
+            Kind::Folder => inner.push(format!(in alloc; "{folder}{name}/")?)?,
+            Kind::Neither => {}
+        }
+    }
+    Ok(())
+}
+
+fn path_of(alloc: Global, folder: &str, name: &str) -> Result<Text, Memory> {
+    let mut path = Vec::from_slice(alloc, folder.as_bytes())?;
+    path.extend_from_slice(name.as_bytes())?;
+    Ok(Text::from_vec(path))
+}
+
+enum Kind {
+    File,
+    Folder,
+    Neither,
+}
+
+// What an entry, or what the link that it is leads to, is. A link that leads nowhere is neither a file
+// nor a folder.
+fn kind_of<R: Files + AllocGlobal + Clone + Drop>(
+    rt: &R,
+    entry: &DirEntry<R, Global>,
+) -> Result<Kind, FolderErr> {
+    match fs::metadata(rt, entry.path()) {
+        Ok(metadata) if metadata.is_dir() => Ok(Kind::Folder),
+        Ok(metadata) if metadata.is_file() => Ok(Kind::File),
+        Ok(_) => Ok(Kind::Neither),
+        Err(fault) if fault.kind() == io::ErrorKind::NotFound => Ok(Kind::Neither),
+        Err(fault) => Err(FolderErr::from(fault)),
+    }
+}
