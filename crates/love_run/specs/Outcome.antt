@@ -1,0 +1,45 @@
+-- How a run of the program ends.
+use Rattle.std.specs.Prelude.{◌≡◌, ℕ, List, ◌∷◌, [], Option, Some, None, codes, ◌⊎◌}
+use Rattle.love_base.specs.Folder.{File, content}
+use Rattle.love_base.specs.declared.folder.FolderErr.{FolderErr}
+use Rattle.love_base.specs.declared.folder.FolderErr.TheVariants as folder
+use Rattle.love_run.specs.Program.{HasForm, IsProgram}
+use Rattle.love_run.specs.declared.statement.Statement.{Statement}
+use Rattle.love_run.specs.declared.load.LoadFault.{LoadFault}
+use Rattle.love_run.specs.declared.load.LoadFault.TheVariants.{NoMain, Folder, OutOfForm, Memory}
+
+-- the path of the file that runs
+abbrev pub main_lua : List ℕ
+main_lua = codes "main.lua"
+
+-- the files have a `main.lua`, and it is that of a program of these statements
+abbrev pub HasProgram : List File → List Statement → Type 0
+HasProgram files statements = (source : List ℕ) × (content files main_lua ≡ Some source) × IsProgram source statements
+
+-- the files have a `main.lua` that isn't of the form that is read
+abbrev pub HasOtherForm : List File → Type 0
+HasOtherForm files = (source : List ℕ) × (content files main_lua ≡ Some source) × ¬ HasForm source
+
+-- the files have no `main.lua`
+abbrev pub HasNoMain : List File → Type 0
+HasNoMain files = content files main_lua ≡ None
+
+-- how a fault of the folder is told
+abbrev pub load_fault_of : FolderErr → LoadFault
+load_fault_of folder.Failed = Folder
+load_fault_of folder.Memory = Memory
+
+-- the status of a game that isn't loaded
+abbrev pub status_of : LoadFault → ℕ
+status_of NoMain = 65
+status_of Folder = 66
+status_of OutOfForm = 69
+status_of Memory = 70
+
+-- the status says that nothing ran: the words, the folder or `main.lua` were refused
+abbrev pub SaysNothingRan : ℕ → Type 0
+SaysNothingRan status = (status ≡ 64) ⊎ (status ≡ 65) ⊎ (status ≡ 66) ⊎ (status ≡ 69)
+
+-- the status says that the game ran to its end, whether or not its output was written
+abbrev pub SaysRanWhole : ℕ → Type 0
+SaysRanWhole status = (status ≡ 0) ⊎ (status ≡ 67)

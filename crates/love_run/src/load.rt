@@ -1,0 +1,87 @@
+ghost use Rattle.std.specs.Prelude.{◌≡◌, ◌+◌, ◌≤◌, ℕ, List, IfOk, IfSome, IsErrOf};
+ghost use Rattle.love_base.specs.Fault.{HasRisen};
+ghost use Rattle.love_run.specs.Outcome.{HasNoMain, HasOtherForm, HasProgram, status_of};
+
+use crate::reader::{ReadFault, read_program};
+use crate::statement::Statement;
+use crate::status::{NO_MAIN, OUT_OF_FORM, OUT_OF_MEMORY, UNREADABLE};
+use love_base::{Folder, FolderErr, Memory, Text};
+use std::alloc::Global;
+
+// The file of a game that runs first.
+const MAIN: &[u8] = b"main.lua";
+
+/// Why a game isn't loaded.
+#[derive(Clone, Copy, Debug, PartialEq, Eq)]
+pub enum LoadFault {
+    /// The folder has no `main.lua`.
+    NoMain,
+    /// The folder or `main.lua` can't be read.
+    Folder,
+    /// `main.lua` isn't of the form that is read yet.
+    OutOfForm,
+    Memory,
+}
+
+impl LoadFault {
+    pub fn status(self) -> u8
+        ensures { result ≡ status_of self }
+    {
+        match self {
+            LoadFault::NoMain => NO_MAIN,
+            LoadFault::Folder => UNREADABLE,
+            LoadFault::OutOfForm => OUT_OF_FORM,
+            LoadFault::Memory => OUT_OF_MEMORY,
+        }
+    }
+}
+
+impl From<Memory> for LoadFault {
+    ghost use Rattle.love_run.specs.declared.load.LoadFault.TheVariants.{Memory};
+
+    ghost from_gives = { λ _ fault. fault ≡ Memory };
+
+    fn from(_want: Memory) -> LoadFault {
+        LoadFault::Memory
+    }
+}
+
+impl From<FolderErr> for LoadFault {
+    ghost use Rattle.love_run.specs.Outcome.{load_fault_of};
+
+    ghost from_gives = { λ fault own. own ≡ load_fault_of fault };
+
+    fn from(fault: FolderErr) -> LoadFault {
+        match fault {
+            FolderErr::Failed => LoadFault::Folder,
+            FolderErr::Memory => LoadFault::Memory,
+        }
+    }
+}
+
+// The statements of the game's `main.lua`.
+pub fn load<F: Folder>(
+    alloc: Global,
+    at: &Text,
+    folder: &mut F,
+) -> Result<Vec<Statement>, LoadFault>
+    ensures program { IfOk result (λ statements. IfSome (F.files folder.old) (λ files. HasProgram files statements.items)) }
+    ensures no_main { IsErrOf result LoadFault.NoMain → IfSome (F.files folder.old) HasNoMain }
+    ensures out_of_form { IsErrOf result LoadFault.OutOfForm → IfSome (F.files folder.old) HasOtherForm }
+    ensures failed { IsErrOf result LoadFault.Folder → HasRisen (F.faults folder.old) (F.faults folder.new) }
+    ensures counted { F.faults folder.old ≤ F.faults folder.new }
+    ensures called { F.calls folder.new ≤ F.calls folder.old + 2 }
+    ensures kept { F.files folder.new ≡ F.files folder.old }
+{
+    let main = Text::of(alloc, MAIN)?;
+    let names = folder.list(alloc, at)?;
+    if !names.contains(&main) {
+        return Err(LoadFault::NoMain);
+    }
+    let source = folder.read(alloc, at, &main)?;
+    match read_program(alloc, source.as_slice()) {
+        Ok(statements) => Ok(statements),
+        Err(ReadFault::OutOfForm) => Err(LoadFault::OutOfForm),
+        Err(ReadFault::Memory) => Err(LoadFault::Memory),
+    }
+}

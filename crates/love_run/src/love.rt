@@ -1,0 +1,82 @@
+ghost use Rattle.std.specs.Prelude.{◌≡◌, ◌+◌, ◌++◌, ◌≤◌, ◌↔◌, ◌⊎◌, ℕ, List, [], IfSome};
+ghost use Rattle.std.specs.Option.{option_map};
+ghost use Rattle.love_base.specs.Fault.{HasRisen};
+ghost use Rattle.love_base.specs.Prefix.{IsPrefix};
+ghost use Rattle.love_run.specs.Command.{IsCommand};
+ghost use Rattle.love_run.specs.Outcome.{HasNoMain, HasOtherForm, HasProgram, SaysNothingRan, SaysRanWhole};
+ghost use Rattle.love_run.specs.Program.{output};
+ghost use Rattle.love_run.specs.declared.statement.Statement.{Statement};
+
+use crate::command::folder_of;
+use crate::load::load;
+use crate::report::Report;
+use crate::run::run;
+use crate::statement::Statement;
+use crate::status::{DONE, NO_MAIN, OUT_OF_FORM, OUT_OF_MEMORY, UNREADABLE, UNWRITTEN, USAGE};
+use crate::writer::write_all;
+use love_base::{Folder, Sink, SinkErr, Text};
+use std::alloc::Global;
+
+/// Reads a game, runs it and writes what it prints: all that the program does.
+///
+/// `words` are those after the program's name. The report's status is 0 or one of [`crate::status`].
+pub fn love<F: Folder, S: Sink>(
+    alloc: Global,
+    words: &[Text],
+    folder: &mut F,
+    sink: &mut S,
+) -> Report
+    // What each status says.
+    ensures usage { (result.status ≡ USAGE) ↔ ¬ IsCommand words.now }
+    ensures no_main { result.status ≡ NO_MAIN → IfSome (F.files folder.old) HasNoMain }
+    ensures folder_fault { result.status ≡ UNREADABLE → HasRisen (F.faults folder.old) (F.faults folder.new) }
+    ensures output_fault { result.status ≡ UNWRITTEN → HasRisen (S.faults sink.old) (S.faults sink.new) }
+    ensures out_of_form { result.status ≡ OUT_OF_FORM → IfSome (F.files folder.old) HasOtherForm }
+
+    // What was printed.
+    ensures ran_whole { SaysRanWhole result.status → IfSome (F.files folder.old) (λ files. (program : List Statement) × HasProgram files program × (result.out ≡ output program)) }
+    ensures ran_in_part { result.status ≡ OUT_OF_MEMORY → IfSome (F.files folder.old) (λ files. (result.out ≡ []) ⊎ ((program : List Statement) × HasProgram files program × IsPrefix result.out (output program))) }
+    ensures ran_nothing { SaysNothingRan result.status → result.out ≡ [] }
+
+    // What was written.
+    ensures written { result.status ≡ DONE → S.taken sink.new ≡ option_map (λ before. before ++ result.out) (S.taken sink.old) }
+    ensures written_in_part { (sent : List ℕ) × IsPrefix sent result.out × (S.taken sink.new ≡ option_map (λ before. before ++ sent) (S.taken sink.old)) }
+    ensures wrote_nothing { SaysNothingRan result.status → S.taken sink.new ≡ S.taken sink.old }
+
+    // Where no fault happens and the game has the form that is read, it runs and all is written.
+    ensures complete { IsCommand words.now → ¬ HasRisen (F.faults folder.old) (F.faults folder.new) → ¬ HasRisen (S.faults sink.old) (S.faults sink.new)
+        → IfSome (F.files folder.old) (λ files. (program : List Statement) → HasProgram files program → (result.status ≡ DONE) ⊎ (result.status ≡ OUT_OF_MEMORY)) }
+
+    // What stays as it was.
+    ensures kept { F.files folder.new ≡ F.files folder.old }
+    ensures calls { F.calls folder.new ≤ F.calls folder.old + 2 }
+{
+    let Some(at) = folder_of(words) else {
+        return Report::unbegun(alloc, USAGE);
+    };
+    match load(alloc, at, folder) {
+        Ok(statements) => play(alloc, statements.as_slice(), sink),
+        Err(fault) => Report::unbegun(alloc, fault.status()),
+    }
+}
+
+// Runs a program and writes what it printed, also where it was cut short.
+fn play<S: Sink>(alloc: Global, program: &[Statement], sink: &mut S) -> Report
+    ensures status { (result.status ≡ DONE) ⊎ (result.status ≡ UNWRITTEN) ⊎ (result.status ≡ OUT_OF_MEMORY) }
+    ensures failed { result.status ≡ UNWRITTEN → HasRisen (S.faults sink.old) (S.faults sink.new) }
+    ensures whole { SaysRanWhole result.status → result.out ≡ output program.now }
+    ensures part { IsPrefix result.out (output program.now) }
+    ensures written { result.status ≡ DONE → S.taken sink.new ≡ option_map (λ before. before ++ result.out) (S.taken sink.old) }
+    ensures written_in_part { (sent : List ℕ) × IsPrefix sent result.out × (S.taken sink.new ≡ option_map (λ before. before ++ sent) (S.taken sink.old)) }
+{
+    let mut out = Vec::new(alloc);
+    let ran = run(program, &mut out);
+    let written = write_all(sink, out.as_slice());
+    let status = match (ran, written) {
+        (Err(_), _) | (Ok(()), Err(SinkErr::Memory)) => OUT_OF_MEMORY,
+        (Ok(()), Err(SinkErr::Failed)) => UNWRITTEN,
+        (Ok(()), Ok(())) => DONE,
+    };
+    let out = Text::from_vec(out);
+    Report { status, out }
+}
