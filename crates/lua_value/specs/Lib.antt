@@ -1,0 +1,4 @@
+pub mod Num
+pub mod Sign
+pub mod Numeral
+pub mod Arithmetic
