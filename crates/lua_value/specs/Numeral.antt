@@ -47,14 +47,18 @@ numeral_text (decimal whole fraction exponent) = whole ++ (fraction_text fractio
 abbrev pub IsExponent : Exponent → Type 0
 IsExponent e = ((e.letter ≡ 101) ⊎ (e.letter ≡ 69)) × (0 < length e.digits) × AllDigits 10 e.digits
 
+-- the same of what stands as the exponent, if anything does
+abbrev pub IsOptionalExponent : Option Exponent → Type 0
+IsOptionalExponent exponent = MatchOption exponent ⊤ IsExponent
+
 -- `x` or `X`, and one hexadecimal digit or more; or one decimal digit or more before and behind the point together, and
--- what stands as the exponent is one
+-- an exponent or none
 abbrev pub IsWellFormed : Numeral → Type 0
 IsWellFormed (hexadecimal letter digits) =
     ((letter ≡ 120) ⊎ (letter ≡ 88)) × (0 < length digits) × AllDigits 16 digits
 IsWellFormed (decimal whole fraction exponent) =
     AllDigits 10 whole × AllDigits 10 (fraction_digits fraction)
-    × (0 < length (whole ++ fraction_digits fraction)) × MatchOption exponent ⊤ IsExponent
+    × (0 < length (whole ++ fraction_digits fraction)) × IsOptionalExponent exponent
 
 -- ---- the value of a numeral
 
@@ -72,14 +76,17 @@ abbrev pub lowering : ℤ → ℕ
 lowering (pos k) = 0
 lowering (negsuc k) = suc k
 
--- z is the exact value: that of the hexadecimal digits; or that of all decimal digits together, times ten to the
--- exponent, divided by ten for each digit behind the point
+-- z is the number that the digits before and behind a point write, times ten to the exponent e: all digits together,
+-- times the power of ten that e raises by, are z times ten for each digit behind the point and for each that e lowers by
+abbrev pub IsScaled : List ℕ → List ℕ → ℤ → ℤ → Type 0
+IsScaled whole fraction e z =
+    z *ℤ pos (10 ^ (length fraction + lowering e)) ≡ pos (digits_value 10 (whole ++ fraction) * 10 ^ raising e)
+
+-- z is the exact value of a numeral
 abbrev pub HasValue : Numeral → ℤ → Type 0
 HasValue (hexadecimal letter digits) z = z ≡ pos (digits_value 16 digits)
 HasValue (decimal whole fraction exponent) z =
-    let e = exponent_value exponent in
-    z *ℤ pos (10 ^ (length (fraction_digits fraction) + lowering e))
-    ≡ pos (digits_value 10 (whole ++ fraction_digits fraction) * 10 ^ raising e)
+    IsScaled whole (fraction_digits fraction) (exponent_value exponent) z
 
 -- ---- texts
 
@@ -96,6 +103,14 @@ abbrev pub IsAnswer : List ℕ → Result ℤ NumeralFault → Type 0
 IsAnswer text (Ok z) = Denotes text z × IsNum z
 IsAnswer text (Err Malformed) = ¬ IsNumeral text
 IsAnswer text (Err NotWhole) = IsNumeral text × ((z : ℤ) → Denotes text z → ¬ IsNum z)
+
+-- the same for the digits behind `0x`
+abbrev pub IsHexadecimalAnswer : List ℕ → Result ℤ NumeralFault → Type 0
+IsHexadecimalAnswer digits (Ok z) =
+    (0 < length digits) × AllDigits 16 digits × (z ≡ pos (digits_value 16 digits)) × IsNum z
+IsHexadecimalAnswer digits (Err Malformed) = 0 < length digits → ¬ AllDigits 16 digits
+IsHexadecimalAnswer digits (Err NotWhole) =
+    (0 < length digits) × AllDigits 16 digits × ¬ IsNum (pos (digits_value 16 digits))
 
 -- ---- texts with blanks and a sign
 

@@ -5,6 +5,9 @@
 #![tactic(auto)]
 
 mod arithmetic;
+mod decimal;
+mod digits;
+mod hexadecimal;
 mod num;
 mod numeral;
 

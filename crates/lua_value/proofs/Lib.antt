@@ -1,0 +1,6 @@
+pub mod Saturation
+pub mod DigitLemmas
+pub mod Scaling
+pub mod Reading
+pub mod Placing
+pub mod ExponentLemmas
