@@ -1,5 +1,5 @@
 -- Digits of a text, and the number that they write.
-use Rattle.std.proofs.Common.{◌≡◌, ℕ, zero, suc, ◌+◌, ◌*◌, ◌-◌, ◌^◌, ◌≤◌, ◌<◌, Bool, true, false, cond, inl, inr, min, List, [], ◌∷◌, ◌++◌, length, take, drop, get_or, arith, ap, refl, sym, ◌∙◌, add-one, one-add, pow-suc, length-append}
+use Rattle.std.proofs.Common.{◌≡◌, ℕ, zero, suc, ◌+◌, ◌*◌, ◌-◌, ◌^◌, ◌≤◌, ◌<◌, Bool, true, false, cond, inl, inr, min, List, [], ◌∷◌, ◌++◌, length, take, drop, get_or, arith, ap, refl, ◌∙◌, add-one, one-add, pow-suc}
 use Rattle.std.proofs.Math.Nat.{pow-zero, sub-zero, zero-sub, suc-sub-suc, one-le-pow, le-mul_of_pos_right, min-eq_left, min-eq_right}
 use Rattle.std.proofs.lemmas.Bool.{cases_lt}
 use Rattle.std.proofs.Math.Seq.{drop-nil, take-nil}
@@ -110,8 +110,11 @@ zeros_behind p xs ys h k = rw (drop-append p xs ys, digits_value-append 10 (drop
 pub zeros_first : (p : ℕ) (xs ys : List ℕ) → digits_value 10 (drop p (xs ++ ys)) ≡ 0 → digits_value 10 (drop p xs) ≡ 0
 zeros_first p xs ys h =
     let tail = drop (p - length xs) ys in
-    omega (arith, rw (drop-append p xs ys, digits_value-append 10 (drop p xs) tail) at h,
-        le-mul_of_pos_right {m = 10 ^ length tail} (digits_value 10 (drop p xs)) (one-le-pow (length tail) 10 (omega arith)))
+    omega (
+      arith,
+      rw (drop-append p xs ys, digits_value-append 10 (drop p xs) tail) at h,
+      le-mul_of_pos_right {m = 10 ^ length tail} (digits_value 10 (drop p xs)) (one-le-pow (length tail) 10 (omega arith)),
+    )
 
 pub zeros_second : (p : ℕ) (xs ys : List ℕ) → digits_value 10 (drop p (xs ++ ys)) ≡ 0 → digits_value 10 (drop (p - length xs) ys) ≡ 0
 zeros_second p xs ys h = omega (arith, rw (drop-append p xs ys, digits_value-append 10 (drop p xs) (drop (p - length xs) ys)) at h)
@@ -121,14 +124,14 @@ pub read_before : (p m : ℕ) (xs ys : List ℕ) (first second : ℕ) → first 
     second ≡ min (digits_value_after 10 first (take (p - length xs) ys)) m → second ≡ min (digits_value 10 (take p (xs ++ ys))) m
 read_before p m xs ys first second h k =
     rw (k, h, take-append p xs ys, digits_value_after-append 10 0 (take p xs) (take (p - length xs) ys))
-        (min-digits (digits_value 10 (take p xs)) m (take (p - length xs) ys))
+    (min-digits (digits_value 10 (take p xs)) m (take (p - length xs) ys))
   where
     min-digits : (n m : ℕ) (ds : List ℕ) → min (digits_value_after 10 (min n m) ds) m ≡ min (digits_value_after 10 n ds) m
     min-digits n m ds = elim (cases_lt m n) [
-        inr within ↦ rw (min-eq_left {n = n} {m = m} within) refl
+      | inr within ↦ rw (min-eq_left {n = n} {m = m} within) refl
       | inl above ↦
-            let digits = 10 ^ length ds in
-            let some : 1 ≤ digits = one-le-pow (length ds) 10 (omega arith) in
-            rw (min-eq_right {n = m} {m = n} (omega arith), digits_value_after_is 10 m ds, digits_value_after_is 10 n ds)
-                (omega (arith, le-mul_of_pos_right {m = digits} m some, le-mul_of_pos_right {m = digits} n some))
-      ]
+          let digits = 10 ^ length ds in
+          let some : 1 ≤ digits = one-le-pow (length ds) 10 (omega arith) in
+          rw (min-eq_right {n = m} {m = n} (omega arith), digits_value_after_is 10 m ds, digits_value_after_is 10 n ds)
+          (omega (arith, le-mul_of_pos_right {m = digits} m some, le-mul_of_pos_right {m = digits} n some))
+    ]

@@ -1,13 +1,13 @@
 -- A text is the text of at most one numeral.
-use Rattle.std.proofs.Common.{◌≡◌, ◌≢◌, ℕ, zero, suc, ◌+◌, ◌≤◌, ◌<◌, ◌⊎◌, inl, inr, ℤ, pos, Option, Some, None, Result, Ok, Err, MatchOption, List, [], ◌∷◌, ◌++◌, length, ok_or, arith, ap, refl, sym, ◌∙◌, subst}
+use Rattle.std.proofs.Common.{◌≡◌, ◌≢◌, ℕ, ◌<◌, ◌⊎◌, inl, inr, ℤ, Option, Some, None, Result, Ok, Err, MatchOption, List, [], ◌∷◌, ◌++◌, length, ok_or, arith, ap, refl, sym, ◌∙◌}
 use Rattle.std.specs.Char.{digit_value}
-use Rattle.std.specs.Str.Parse.{AllDigits, digits_value}
+use Rattle.std.specs.Str.Parse.{AllDigits}
 use Rattle.lua_value.specs.Num.{IsNum}
 use Rattle.lua_value.specs.Sign.{Sign, sign_text}
 use Rattle.lua_value.specs.Sign.Sign.{unsigned, plus, minus}
-use Rattle.lua_value.specs.Numeral.{Numeral, Exponent, fraction_digits, fraction_text, exponent_text, exponent_value, numeral_text, IsExponent, IsOptionalExponent, IsWellFormed, HasValue, IsScaled, IsNumeral, Denotes, IsAnswer, IsHexadecimalAnswer}
+use Rattle.lua_value.specs.Numeral.{Numeral, Exponent, fraction_digits, fraction_text, exponent_text, exponent_value, numeral_text, IsOptionalExponent, IsWellFormed, HasValue, IsScaled, IsNumeral, IsAnswer, IsHexadecimalAnswer}
 use Rattle.lua_value.specs.Numeral.Numeral.{hexadecimal, decimal}
-use Rattle.lua_value.specs.Place.{BeginsWithNoDigit, BeginsWithout, EndsMantissa}
+use Rattle.lua_value.specs.Place.{BeginsWithNoDigit, EndsMantissa}
 use Rattle.lua_value.specs.declared.numeral.NumeralFault.{NumeralFault}
 use Rattle.lua_value.specs.declared.numeral.NumeralFault.TheVariants.{Malformed, NotWhole}
 
@@ -59,7 +59,7 @@ letter_begins letter rest (inl e) = rw e (λ h. omega arith, λ h. omega arith)
 letter_begins letter rest (inr e) = rw e (λ h. omega arith, λ h. omega arith)
 
 -- an exponent may follow every mantissa
-exponent_ends : (e : Option Exponent) (f : Option (List ℕ)) → IsOptionalExponent e → EndsMantissa f (exponent_text e)
+pub exponent_ends : (e : Option Exponent) (f : Option (List ℕ)) → IsOptionalExponent e → EndsMantissa f (exponent_text e)
 exponent_ends None f h = (tt, λ _. tt)
 exponent_ends (Some e) f h = let first = letter_begins e.letter [] h.0 in (first.0, λ _. first.1)
 
@@ -81,7 +81,7 @@ signs_unique minus unsigned xs ys p q e = absurd (not_sign 45 [] ys xs (λ h. om
 signs_unique minus plus xs ys p q e = absurd (apart_signs (sym (same_head e)))
 signs_unique minus minus xs ys p q e = (refl, same_tail e)
 
-exponent_unique : (d e : Option Exponent) → IsOptionalExponent d → IsOptionalExponent e → exponent_text d ≡ exponent_text e → d ≡ e
+pub exponent_unique : (d e : Option Exponent) → IsOptionalExponent d → IsOptionalExponent e → exponent_text d ≡ exponent_text e → d ≡ e
 exponent_unique None None p q h = refl
 exponent_unique None (Some e) p q h = cc
 exponent_unique (Some d) None p q h = cc
@@ -96,9 +96,9 @@ exponent_unique (Some d) (Some e) p q h =
 module _ (letter : ℕ) (digits : List ℕ) (is_x : (letter ≡ 120) ⊎ (letter ≡ 88)) where
   no_digit : (digit_value letter < 10 → ⊥) × (letter ≢ 46) × (letter ≢ 101) × (letter ≢ 69)
   no_digit = elim is_x [
-      inl e ↦ rw e (λ h. omega arith, λ h. omega arith, λ h. omega arith, λ h. omega arith)
+    | inl e ↦ rw e (λ h. omega arith, λ h. omega arith, λ h. omega arith, λ h. omega arith)
     | inr e ↦ rw e (λ h. omega arith, λ h. omega arith, λ h. omega arith, λ h. omega arith)
-    ]
+  ]
 
   no_exponent_text : (e : Option Exponent) → IsOptionalExponent e → exponent_text e ≡ letter ∷ digits → ⊥
   no_exponent_text None h p = cc
@@ -112,8 +112,8 @@ module _ (letter : ℕ) (digits : List ℕ) (is_x : (letter ≡ 120) ⊎ (letter
       rw (first, behind) refl
   hexadecimal_only (decimal whole fraction exponent) h e =
       absurd (no_exponent_text exponent h.3
-          (mantissa_unique whole (48 ∷ []) fraction None (exponent_text exponent) (letter ∷ digits) h.0 (omega arith, tt) h.1 tt
-              (exponent_ends exponent fraction h.3) (no_digit.0, λ _. no_digit.1) e).2)
+      (mantissa_unique whole (48 ∷ []) fraction None (exponent_text exponent) (letter ∷ digits) h.0 (omega arith, tt) h.1 tt
+      (exponent_ends exponent fraction h.3) (no_digit.0, λ _. no_digit.1) e).2)
 
   -- the answer for a text with `0x`
   pub hexadecimal_answer : (text : List ℕ) (r : Result ℤ NumeralFault) → text ≡ 48 ∷ (letter ∷ digits) →
@@ -123,22 +123,22 @@ module _ (letter : ℕ) (digits : List ℕ) (is_x : (letter ≡ 120) ⊎ (letter
   hexadecimal_answer text (Err Malformed) e answer = λ (t, formed, spelled).
       let formed' : IsWellFormed (hexadecimal letter digits) = rw (hexadecimal_only t formed (spelled ∙ e)) at formed in
       answer formed'.1 formed'.2
-  hexadecimal_answer text (Err NotWhole) e answer =
-      ((hexadecimal letter digits, (is_x, answer.0, answer.1), sym e)
-      , λ z (t, formed, spelled, value) num.
-          let value' : HasValue (hexadecimal letter digits) z = rw (hexadecimal_only t formed (spelled ∙ e)) at value in
-          answer.2 (rw value' at num))
+  hexadecimal_answer text (Err NotWhole) e answer = (
+    (hexadecimal letter digits, (is_x, answer.0, answer.1), sym e),
+    λ z (t, formed, spelled, value) num.
+        let value' : HasValue (hexadecimal letter digits) z = rw (hexadecimal_only t formed (spelled ∙ e)) at value in
+        answer.2 (rw value' at num),
+  )
 
 -- a text that is cut into the parts of a mantissa and what follows them
 module _ (text whole : List ℕ) (fraction : Option (List ℕ)) (tail : List ℕ)
     (whole_digits : AllDigits 10 whole) (behind_digits : AllDigits 10 (fraction_digits fraction)) (ends : EndsMantissa fraction tail)
     (parts : text ≡ whole ++ (fraction_text fraction ++ tail))
     (no_hexadecimal : (letter : ℕ) (digits : List ℕ) → (letter ≡ 120) ⊎ (letter ≡ 88) → text ≢ 48 ∷ (letter ∷ digits)) where
-
   -- each numeral with this text has these parts
   pub decimal_only : (t : Numeral) → IsWellFormed t → numeral_text t ≡ text →
       (e : Option Exponent) × (t ≡ decimal whole fraction e) × IsOptionalExponent e × (exponent_text e ≡ tail)
-          × (0 < length (whole ++ fraction_digits fraction))
+      × (0 < length (whole ++ fraction_digits fraction))
   decimal_only (hexadecimal letter digits) h e = absurd (no_hexadecimal letter digits h.0 (sym e))
   decimal_only (decimal w f x) h e =
       let same = mantissa_unique w whole f fraction (exponent_text x) tail h.0 whole_digits h.1 behind_digits (exponent_ends x f h.3) ends (e ∙ parts) in
@@ -156,14 +156,15 @@ module _ (text whole : List ℕ) (fraction : Option (List ℕ)) (tail : List ℕ
   pub decimal_answer : (e : Option Exponent) → IsOptionalExponent e → exponent_text e ≡ tail →
       0 < length (whole ++ fraction_digits fraction) → (r : Option ℤ) →
       MatchOption r ((z : ℤ) → IsScaled whole (fraction_digits fraction) (exponent_value e) z → ¬ IsNum z)
-          (λ z. IsScaled whole (fraction_digits fraction) (exponent_value e) z × IsNum z) →
+      (λ z. IsScaled whole (fraction_digits fraction) (exponent_value e) z × IsNum z) →
       IsAnswer text (ok_or r NotWhole)
   decimal_answer e formed spelled some (Some z) answer =
       ((decimal whole fraction e, (whole_digits, behind_digits, some, formed), rw (parts, spelled) refl, answer.0), answer.1)
-  decimal_answer e formed spelled some None answer =
-      ((decimal whole fraction e, (whole_digits, behind_digits, some, formed), rw (parts, spelled) refl)
-      , λ z (t, t_formed, t_spelled, value) num.
-          let only = decimal_only t t_formed t_spelled in
-          let same : only.0 ≡ e = exponent_unique only.0 e only.2 formed (only.3 ∙ sym spelled) in
-          let value' : HasValue (decimal whole fraction e) z = rw (only.1, same) at value in
-          answer z value' num)
+  decimal_answer e formed spelled some None answer = (
+    (decimal whole fraction e, (whole_digits, behind_digits, some, formed), rw (parts, spelled) refl),
+    λ z (t, t_formed, t_spelled, value) num.
+        let only = decimal_only t t_formed t_spelled in
+        let same : only.0 ≡ e = exponent_unique only.0 e only.2 formed (only.3 ∙ sym spelled) in
+        let value' : HasValue (decimal whole fraction e) z = rw (only.1, same) at value in
+        answer z value' num,
+  )

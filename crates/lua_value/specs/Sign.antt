@@ -1,5 +1,5 @@
 -- An optional sign before a number, as an exponent and a text that is read as a number have one.
-use Rattle.std.specs.Prelude.{ℕ, ℤ, pos, neg_ℤ, List, codes}
+use Rattle.std.specs.Prelude.{ℕ, ℤ, neg_ℤ, List, codes}
 
 -- `+`, `-`, or none
 pub data Sign : Type 0 where

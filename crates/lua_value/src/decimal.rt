@@ -11,9 +11,7 @@ use crate::{Num, NumeralFault};
 
 /// The value of a decimal numeral. The text doesn't begin as a hexadecimal one.
 pub(crate) fn decimal(text: &[u8]) -> Result<Num, NumeralFault>
-    requires {
-        (letter : ℕ) (digits : List ℕ) → (letter ≡ 120) ⊎ (letter ≡ 88) → text.now ≢ 48 ∷ (letter ∷ digits)
-    }
+    requires { (letter : ℕ) (digits : List ℕ) → (letter ≡ 120) ⊎ (letter ≡ 88) → text.now ≢ 48 ∷ (letter ∷ digits) }
     ensures { IsAnswer text.now result }
 {
     let (whole, rest) = split_digits(text);
@@ -30,10 +28,8 @@ pub(crate) fn decimal(text: &[u8]) -> Result<Num, NumeralFault>
 /// The digits behind a point, none where the text doesn't begin with one, and what stands behind them.
 fn behind_point(text: &[u8]) -> (&[u8], &[u8])
     requires { BeginsWithNoDigit text.now }
-    ensures {
-        (fraction : Option (List ℕ)) × AllDigits 10 (fraction_digits fraction) × EndsMantissa fraction result.1.now
-            × (result.0.now ≡ fraction_digits fraction) × (text.now ≡ fraction_text fraction ++ result.1.now)
-    }
+    ensures { (fraction : Option (List ℕ)) × AllDigits 10 (fraction_digits fraction) × EndsMantissa fraction result.1.now
+        × (result.0.now ≡ fraction_digits fraction) × (text.now ≡ fraction_text fraction ++ result.1.now) }
 {
     match after_either(text, b'.', b'.') {
         Some(behind) => split_digits(behind),
@@ -43,15 +39,17 @@ fn behind_point(text: &[u8]) -> (&[u8], &[u8])
 
 /// Where the point behind `whole` digits stands once the exponent has moved it, or `None` where the text is no exponent.
 fn moved(whole: usize, exponent: &[u8]) -> Option<usize>
-    ensures {
-        MatchOption result
-            ((e : Option Exponent) → IsOptionalExponent e → exponent_text e ≢ exponent.now)
-            (λ point. (e : Option Exponent) × IsOptionalExponent e
-                × (exponent_text e ≡ exponent.now) × (point ≡ moved_point whole (exponent_value e)))
-    }
+    ensures { MatchOption result
+        ((e : Option Exponent) → IsOptionalExponent e → exponent_text e ≢ exponent.now)
+        (λ point. (e : Option Exponent) × IsOptionalExponent e
+        × (exponent_text e ≡ exponent.now) × (point ≡ moved_point whole (exponent_value e))) }
 {
     let Some(signed) = after_either(exponent, b'e', b'E') else {
-        return if exponent.is_empty() { Some(whole) } else { None };
+        return if exponent.is_empty() {
+            Some(whole)
+        } else {
+            None
+        };
     };
     match after_either(signed, b'-', b'-') {
         Some(digits) => Some(whole.saturating_sub(size(digits)?)),
@@ -64,12 +62,10 @@ fn moved(whole: usize, exponent: &[u8]) -> Option<usize>
 
 /// The number that one decimal digit or more write, at most the greatest word.
 fn size(digits: &[u8]) -> Option<usize>
-    ensures {
-        MatchOption result
-            ((0 < length digits.now) → ¬ AllDigits 10 digits.now)
-            (λ n. (0 < length digits.now) × AllDigits 10 digits.now
-                × (n ≡ min (digits_value 10 digits.now) (2 ^ 64 - 1)))
-    }
+    ensures { MatchOption result
+        ((0 < length digits.now) → ¬ AllDigits 10 digits.now)
+        (λ n. (0 < length digits.now) × AllDigits 10 digits.now
+        × (n ≡ min (digits_value 10 digits.now) (2 ^ 64 - 1))) }
 {
     if digits.is_empty() {
         return None;
@@ -84,12 +80,10 @@ fn placed(whole: &[u8], fraction: &[u8], point: usize) -> Option<Num>
     requires whole { AllDigits 10 whole.now }
     requires fraction { AllDigits 10 fraction.now }
     requires short { length whole.now + length fraction.now < 2 ^ 63 }
-    ensures {
-        (e : ℤ) → point ≡ moved_point (length whole.now) e →
+    ensures { (e : ℤ) → point ≡ moved_point (length whole.now) e →
         MatchOption result
-            ((z : ℤ) → IsScaled whole.now fraction.now e z → ¬ IsNum z)
-            (λ z. IsScaled whole.now fraction.now e z × IsNum z)
-    }
+        ((z : ℤ) → IsScaled whole.now fraction.now e z → ¬ IsNum z)
+        (λ z. IsScaled whole.now fraction.now e z × IsNum z) }
 {
     let behind = point.saturating_sub(whole.len());
     let number = kept(0, whole, point)?;
@@ -100,12 +94,10 @@ fn placed(whole: &[u8], fraction: &[u8], point: usize) -> Option<Num>
 /// The number that the first `count` digits write behind those of `value`, or `None` where the others aren't all 0.
 fn kept(value: u64, digits: &[u8], count: usize) -> Option<u64>
     requires { AllDigits 10 digits.now }
-    ensures {
-        MatchOption result
-            (digits_value 10 (drop count digits.now) ≢ 0)
-            (λ n. (digits_value 10 (drop count digits.now) ≡ 0)
-                × (n ≡ min (digits_value_after 10 value (take count digits.now)) (2 ^ 64 - 1)))
-    }
+    ensures { MatchOption result
+        (digits_value 10 (drop count digits.now) ≢ 0)
+        (λ n. (digits_value 10 (drop count digits.now) ≡ 0)
+        × (n ≡ min (digits_value_after 10 value (take count digits.now)) (2 ^ 64 - 1))) }
 {
     let (kept, cut) = digits.split_at(count.min(digits.len()));
     if digits_onto(10, 0, cut)? != 0 {
@@ -116,11 +108,9 @@ fn kept(value: u64, digits: &[u8], count: usize) -> Option<u64>
 
 /// The number with as many zeros behind it, or `None` where it is out of range.
 pub(crate) fn with_zeros(number: u64, zeros: usize) -> Option<Num>
-    ensures {
-        MatchOption result
-            (¬ IsNum (pos (number * 10 ^ zeros)))
-            (λ z. (z ≡ pos (number * 10 ^ zeros)) × IsNum z)
-    }
+    ensures { MatchOption result
+        (¬ IsNum (pos (number * 10 ^ zeros)))
+        (λ z. (z ≡ pos (number * 10 ^ zeros)) × IsNum z) }
 {
     if number == 0 {
         return Num::new(0);

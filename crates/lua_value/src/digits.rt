@@ -8,11 +8,9 @@ ghost use Rattle.lua_value.specs.Place.{BeginsWithNoDigit};
 
 /// The bytes behind the first one, where that is one of the two.
 pub(crate) fn after_either(text: &[u8], one: u8, other: u8) -> Option<&[u8]>
-    ensures {
-        MatchOption result
-            ((c : ℕ) (rest : List ℕ) → text.now ≡ c ∷ rest → (c ≢ one) × (c ≢ other))
-            (λ rest. (c : ℕ) × (text.now ≡ c ∷ rest.now) × ((c ≡ one) ⊎ (c ≡ other)))
-    }
+    ensures { MatchOption result
+        ((c : ℕ) (rest : List ℕ) → text.now ≡ c ∷ rest → (c ≢ one) × (c ≢ other))
+        (λ rest. (c : ℕ) × (text.now ≡ c ∷ rest.now) × ((c ≡ one) ⊎ (c ≡ other))) }
 {
     let (first, rest) = text.split_first()?;
     if *first == one || *first == other {
@@ -44,18 +42,18 @@ fn leading_digits(text: &[u8]) -> usize
 pub(crate) fn digits_onto(base: u32, value: u64, digits: &[u8]) -> Option<u64>
     requires least { 2 ≤ base }
     requires greatest { base ≤ 36 }
-    ensures {
-        MatchOption result
-            (¬ AllDigits base digits.now)
-            (λ v. AllDigits base digits.now × (v ≡ min (digits_value_after base value digits.now) (2 ^ 64 - 1)))
-    }
+    ensures { MatchOption result
+        (¬ AllDigits base digits.now)
+        (λ v. AllDigits base digits.now × (v ≡ min (digits_value_after base value digits.now) (2 ^ 64 - 1))) }
 {
     let mut number = value;
     for byte in digits {
         let Some(digit) = char::from(*byte).to_digit(base) else {
             return None;
         };
-        number = number.saturating_mul(u64::from(base)).saturating_add(u64::from(digit));
+        number = number
+            .saturating_mul(u64::from(base))
+            .saturating_add(u64::from(digit));
     }
     Some(number)
 }

@@ -11,11 +11,9 @@ use crate::{Num, NumeralFault};
 
 /// What stands behind `0x` or `0X`.
 pub(crate) fn hexadecimal_digits(text: &[u8]) -> Option<&[u8]>
-    ensures {
-        MatchOption result
-            ((letter : ℕ) (digits : List ℕ) → (letter ≡ 120) ⊎ (letter ≡ 88) → text.now ≢ 48 ∷ (letter ∷ digits))
-            (λ digits. (letter : ℕ) × ((letter ≡ 120) ⊎ (letter ≡ 88)) × (text.now ≡ 48 ∷ (letter ∷ digits.now)))
-    }
+    ensures { MatchOption result
+        ((letter : ℕ) (digits : List ℕ) → (letter ≡ 120) ⊎ (letter ≡ 88) → text.now ≢ 48 ∷ (letter ∷ digits))
+        (λ digits. (letter : ℕ) × ((letter ≡ 120) ⊎ (letter ≡ 88)) × (text.now ≡ 48 ∷ (letter ∷ digits.now))) }
 {
     let letter = after_either(text, b'0', b'0')?;
     after_either(letter, b'x', b'X')

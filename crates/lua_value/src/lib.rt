@@ -10,6 +10,8 @@ mod digits;
 mod hexadecimal;
 mod num;
 mod numeral;
+#[cfg(test)]
+mod tests;
 
 pub use arithmetic::NumFault;
 pub use num::Num;

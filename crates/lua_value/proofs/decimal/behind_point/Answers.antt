@@ -1,4 +1,4 @@
-use Rattle.std.proofs.Common.{◌≡◌, ◌≢◌, ℕ, ◌⊎◌, inl, inr, Option, Some, None, List, [], ◌∷◌, ◌++◌, refl, sym, ◌∙◌, ap, arith}
+use Rattle.std.proofs.Common.{◌≡◌, ◌≢◌, ℕ, ◌⊎◌, inl, inr, Some, None, List, [], ◌∷◌, refl, sym, ◌∙◌}
 use Rattle.lua_value.specs.Place.{BeginsWithout}
 use Rattle.lua_value.proofs.decimal.behind_point.Goals as goal
 
@@ -12,11 +12,19 @@ begins_without (c ∷ cs) h = (h c cs refl).0
 pub returns-in-Some : goal.returns-in-Some
 returns-in-Some c =
     let point = c.in-Some.ensures in
-    let e : point.0 ≡ 46 = begins_with _ _ point.2 in
-    (Some c.split_digits.result.0.now, c.split_digits.ensures.digits, (c.split_digits.ensures.rest, λ none. absurd (cc none)), refl
-    , point.1 ∙ rw (e, ← c.split_digits.ensures.whole) refl)
+    let e : point.0 ≡ 46 = begins_with _ _ point.2 in (
+      Some c.split_digits.result.0.now,
+      c.split_digits.ensures.digits,
+      (c.split_digits.ensures.rest, λ none. absurd (cc none)),
+      refl,
+      point.1 ∙ rw (e, ← c.split_digits.ensures.whole) refl,
+    )
 
 pub returns-in-None : goal.returns-in-None
-returns-in-None c =
-    (None, tt, (rw c.split_at.ensures.back c.requires, λ _. rw c.split_at.ensures.back (begins_without _ c.in-None.ensures))
-    , c.split_at.ensures.front, sym c.split_at.ensures.back)
+returns-in-None c = (
+  None,
+  tt,
+  (rw c.split_at.ensures.back c.requires, λ _. rw c.split_at.ensures.back (begins_without _ c.in-None.ensures)),
+  c.split_at.ensures.front,
+  sym c.split_at.ensures.back,
+)

@@ -1,4 +1,4 @@
-use Rattle.std.proofs.Common.{arith, ◌<◌, ◌≤◌, ◌*◌, ◌^◌}
+use Rattle.std.proofs.Common.{arith}
 use Rattle.lua_value.proofs.Scaling.{shifted-gt}
 use Rattle.lua_value.proofs.decimal.with_zeros.Goals as goal
 

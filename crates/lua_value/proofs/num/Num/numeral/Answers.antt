@@ -1,6 +1,14 @@
-use Rattle.std.proofs.Common.{◌≡◌, ℕ}
-use Rattle.lua_value.proofs.Reading.{hexadecimal_answer}
+use Rattle.lua_value.proofs.NumeralLaws.{IsAnswer-ok, IsAnswer-malformed, IsAnswer-not_whole, IsAnswer-digits}
 use Rattle.lua_value.proofs.num.Num.numeral.Goals as goal
 
-pub returns-in-Some : goal.returns-in-Some
-returns-in-Some c = let text = c.in-Some.ensures in hexadecimal_answer text.0 _ text.1 _ _ text.2 c.hexadecimal.ensures
+pub returns-clause-ok : goal.returns-clause-ok
+returns-clause-ok c = IsAnswer-ok c.args.text.now _ c.value_of.ensures
+
+pub returns-clause-malformed : goal.returns-clause-malformed
+returns-clause-malformed c = IsAnswer-malformed c.args.text.now _ c.value_of.ensures
+
+pub returns-clause-not_whole : goal.returns-clause-not_whole
+returns-clause-not_whole c = IsAnswer-not_whole c.args.text.now _ c.value_of.ensures
+
+pub returns-clause-digits : goal.returns-clause-digits
+returns-clause-digits c = IsAnswer-digits c.args.text.now _ c.value_of.ensures
