@@ -1,0 +1,5 @@
+pub mod Num
+pub mod Sign
+pub mod Numeral
+pub mod Place
+pub mod Arithmetic

@@ -1,0 +1,18 @@
+//! The numbers of a program: whole numbers from -99,999,999,999,999 to 99,999,999,999,999.
+//!
+//! [`Num`] is the number; its arithmetic is exact or refused by a [`NumFault`]. [`Num::numeral`] and [`Num::read`] read
+//! one from bytes and [`Num::text`] shows it. No call of this crate takes memory.
+#![tactic(auto)]
+
+mod arithmetic;
+mod decimal;
+mod digits;
+mod hexadecimal;
+mod num;
+mod numeral;
+#[cfg(test)]
+mod tests;
+
+pub use arithmetic::NumFault;
+pub use num::Num;
+pub use numeral::NumeralFault;
