@@ -1,1 +1,4 @@
+pub mod Loading
+pub mod Reading
 pub mod Splitting
+pub mod Writing

@@ -1,7 +1,7 @@
 -- Texts taken apart at their front and at their end, and sources at their first newline.
-use Rattle.std.proofs.Common.{◌≡◌, ◌≢◌, ℕ, zero, suc, ◌+◌, ◌-◌, ◌<◌, ◌≤◌, Bool, true, false, List, [], ◌∷◌, ◌++◌, length, take, drop, get_or, eqb, nat_eq, Option, Some, None, Bor, MatchOption, IfSome, IfNone, sym, ◌∙◌, ap, refl, arith, add-one, length-append, append_assoc, absurd}
-use Rattle.std.proofs.Math.Seq.{take-append_seam, drop-append_seam}
-use Rattle.std.proofs.lemmas.List.{take-append-drop}
+use Rattle.std.proofs.Common.{◌≡◌, ◌≢◌, ℕ, zero, suc, ◌+◌, ◌-◌, ◌<◌, ◌≤◌, Bool, true, false, List, [], ◌∷◌, ◌++◌, length, take, drop, get_or, eqb, nat_eq, Option, Some, None, Bor, MatchOption, IfSome, IfNone, sym, ◌∙◌, ap, refl, arith, add-one, length-append}
+use Rattle.std.proofs.Math.Seq.{take-append_seam, drop-append_seam, take-length}
+use Rattle.std.proofs.lemmas.List.{take-append-drop, length-drop}
 use Rattle.std.proofs.lemmas.Bool.{ne_eqb, eq-eqb}
 use Rattle.std.specs.Cmp.Lexicographic.{pointwise, same_text, other_text}
 use Rattle.love_run.specs.Program.{lines, newline, in_front}
@@ -35,7 +35,7 @@ end_missing text end rest other is =
     let long : length text ≡ length rest + length end = ap length is ∙ length-append rest end in
     let start : length text - length end ≡ length rest = omega (arith, long) in
     other_text (drop (length text - length end) text) end (sym other)
-        (ap (λ n. drop n text) start ∙ ap (drop (length rest)) is ∙ drop-append_seam rest end)
+    (ap (λ n. drop n text) start ∙ ap (drop (length rest)) is ∙ drop-append_seam rest end)
 
 pub before_found : (text end : List ℕ) (found : Option (Bor (List ℕ))) → MatchOption found (pointwise nat_eq (drop (length text - length end) text) end ≡ false) (λ rest. (pointwise nat_eq (drop (length text - length end) text) end ≡ true) × (rest.now ≡ take (length text - length end) text) × (length rest.now + length end ≡ length text)) → IfSome found (λ rest. text ≡ rest.now ++ end)
 before_found text end None cases = tt
@@ -60,3 +60,13 @@ lines_first (byte ∷ source) zero within is first =
 lines_first (byte ∷ source) (suc end) within is first =
     let other : eqb byte newline ≡ false = ne_eqb byte newline (λ e. first zero (omega arith) e) in
     rw other (ap (in_front byte) (lines_first source end (omega arith) is (λ k below e. first (suc k) (omega arith) e)))
+
+-- what stands between a front and an end, where the end isn't found behind the front
+pub inner_missing : (text front rest end : List ℕ) (found : Option (Bor (List ℕ))) → text ≡ front ++ rest → IfNone found ((inner : List ℕ) → rest ≡ inner ++ end → ⊥) → IfNone found ((inner : List ℕ) → text ≡ front ++ (inner ++ end) → ⊥)
+inner_missing text front rest end None begins missing = λ inner is.
+    missing inner (sym (drop-append_seam front rest) ∙ ap (drop (length front)) (sym begins ∙ is) ∙ drop-append_seam front (inner ++ end))
+inner_missing text front rest end (Some inner) begins missing = tt
+
+-- the rest behind place n, taken to the end of the source
+pub rest_behind : (source : List ℕ) (n : ℕ) → take (length source - n) (drop n source) ≡ drop n source
+rest_behind source n = ap (λ m. take m (drop n source)) (sym (length-drop n source)) ∙ take-length (drop n source)

@@ -1,5 +1,6 @@
 -- What a `main.lua` of literals says, and what it prints.
-use Rattle.std.specs.Prelude.{◌≡◌, ◌≢◌, ℕ, ◌<◌, ◌≤◌, List, [], ◌∷◌, ◌++◌, if◌then◌else◌, ◌==◌, codes, length, pos, All, ⊤}
+use Rattle.std.specs.Prelude.{◌≡◌, ◌≢◌, ℕ, ◌<◌, ◌≤◌, List, [], ◌∷◌, ◌++◌, if◌then◌else◌, ◌==◌, codes, length, pos, All, Option, Some, None, ⊤}
+use Rattle.std.specs.Borrow.{Bor}
 use Rattle.std.specs.List.{flat_map}
 use Rattle.std.specs.Str.Parse.{AllDigits, digits_value}
 use Rattle.std.specs.Fmt.{signed_decimal}
@@ -25,6 +26,11 @@ in_front byte (line ∷ lines) = (byte ∷ line) ∷ lines
 abbrev pub lines : List ℕ → List (List ℕ)
 lines [] = [] ∷ []
 lines (byte ∷ source) = if byte == newline then [] ∷ lines source else in_front byte (lines source)
+
+-- the lines of what stands behind a newline, and none where nothing does
+abbrev pub lines_behind : Option (Bor (List ℕ)) → List (List ℕ)
+lines_behind None = []
+lines_behind (Some rest) = lines rest.now
 
 -- a byte that a string may hold: printable ASCII, and neither a quote nor a backslash
 abbrev pub IsPlain : ℕ → Type 0

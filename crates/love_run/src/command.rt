@@ -16,5 +16,6 @@ pub fn folder_of(words: &[Text]) -> Option<&Text>
 fn is_folder_word(word: &[u8]) -> bool
     ensures { IsTrue result ↔ IsFolderWord word.now }
 {
-    str::from_utf8(word).is_ok() && (word == b"-".as_slice() || word.first().is_some_and(|first| *first != b'-'))
+    str::from_utf8(word).is_ok()
+        && (word == b"-".as_slice() || word.first().is_some_and(|first| *first != b'-'))
 }

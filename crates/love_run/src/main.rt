@@ -1,4 +1,6 @@
-//! `love_run FOLDER`: runs the game in a folder.
+//! `love_run FOLDER`: runs the game in a folder, and prints what it prints.
+//!
+//! [`love`] does all of it; `main` makes the real folder and output, calls it, and ends with its status.
 #![tactic(auto)]
 
 mod command;
@@ -9,17 +11,26 @@ mod report;
 mod run;
 mod statement;
 mod status;
+mod words;
 mod writer;
 
 pub use love::love;
+use love_base::{RealFolder, RealSink};
 pub use report::Report;
-
-use love_base::{RealFolder, RealSink, Text};
 use std::process::ExitCode;
 
 fn main(rt: HostRuntime) -> ExitCode {
-    let words = Vec::<Text>::new(rt.alloc());
-    let mut folder = RealFolder::new(rt);
-    let mut sink = RealSink::new(rt);
-    ExitCode::from(love(rt.alloc(), words.as_slice(), &mut folder, &mut sink).status)
+    let status = match words::of_program(&rt) {
+        Ok(words) => {
+            let mut folder = RealFolder::new(rt);
+            let mut sink = RealSink::new(rt);
+            love(rt.alloc(), words.as_slice(), &mut folder, &mut sink).status
+        }
+        Err(status) => status,
+    };
+    if let Some(message) = status::message(status) {
+        // Where standard error can't be written either, the status alone says it.
+        let _ = eprintln!(rt; "love_run: {message}");
+    }
+    ExitCode::from(status)
 }

@@ -1,6 +1,7 @@
 //! Reads a `main.lua` of literals, line by line. It goes once the language is read whole.
-ghost use Rattle.std.specs.Prelude.{◌≡◌, ◌<◌, ◌↔◌, ◌≢◌, [], ◌∷◌, ◌++◌, ℕ, ℤ, List, length, slice_index, All, IfOk, IfSome, IfNone, IsErrOf, IsTrue};
-ghost use Rattle.love_run.specs.Program.{HasForm, IsPlain, IsProgram, lines, newline, Spells, SpellsEach, SpellsLiteral};
+ghost use Rattle.std.specs.Prelude.{◌≡◌, ◌<◌, ◌↔◌, ◌≢◌, ◌∷◌, ◌++◌, ℕ, ℤ, List, length, slice_index, All, IfOk, IfSome, IfNone, IsErrOf, IsTrue};
+ghost use Rattle.std.specs.Str.Parse.{AllDigits};
+ghost use Rattle.love_run.specs.Program.{HasForm, IsPlain, IsProgram, lines, lines_behind, newline, Spells, SpellsEach, SpellsLiteral};
 ghost use Rattle.love_run.specs.declared.statement.Literal.{Literal};
 ghost use Rattle.love_run.specs.declared.statement.Statement.{Statement};
 
@@ -70,8 +71,7 @@ fn read_lines(alloc: Global, source: &[u8]) -> Result<Vec<Statement>, ReadFault>
 
 // The first line, and what stands behind its newline where there is one.
 fn cut_line(source: &[u8]) -> (&[u8], Option<&[u8]>)
-    ensures last { IfNone result.1 (lines source.now ≡ result.0.now ∷ []) }
-    ensures first { IfSome result.1 (λ rest. lines source.now ≡ result.0.now ∷ lines rest.now) }
+    ensures cut { lines source.now ≡ result.0.now ∷ lines_behind result.1 }
     ensures shorter { IfSome result.1 (λ rest. length rest.now < length source.now) }
 {
     match line_end(source) {
@@ -137,10 +137,21 @@ fn read_number(text: &[u8]) -> Option<Num>
     ensures spelled { IfSome result (λ n. SpellsLiteral (Literal.Number n) text.now) }
     ensures none { IfNone result ((n : ℤ) → ¬ SpellsLiteral (Literal.Number n) text.now) }
 {
-    if text.is_empty() || text.len() > MOST_DIGITS || !text.iter().all(u8::is_ascii_digit) {
+    if text.is_empty() || text.len() > MOST_DIGITS || !all_digits(text) {
         return None;
     }
     Num::numeral(text).ok()
+}
+
+fn all_digits(text: &[u8]) -> bool
+    ensures { IsTrue result ↔ AllDigits 10 text.now }
+{
+    for byte in text {
+        if !byte.is_ascii_digit() {
+            return false;
+        }
+    }
+    true
 }
 
 // What stands between `front` and `end`, where a text begins with the one and ends with the other.

@@ -14,3 +14,16 @@ pub const UNWRITTEN: u8 = 67;
 pub const OUT_OF_FORM: u8 = 69;
 /// Want of memory.
 pub const OUT_OF_MEMORY: u8 = 70;
+
+/// What the program says of a status on standard error: nothing where the game ran to its end.
+pub fn message(status: u8) -> Option<&'static str> {
+    match status {
+        USAGE => Some("usage: love_run FOLDER"),
+        NO_MAIN => Some("no main.lua"),
+        UNREADABLE => Some("the folder can't be read"),
+        UNWRITTEN => Some("the output can't be written"),
+        OUT_OF_FORM => Some("main.lua isn't of the form that is read yet"),
+        OUT_OF_MEMORY => Some("out of memory"),
+        _ => None,
+    }
+}
