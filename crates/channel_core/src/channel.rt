@@ -1,0 +1,167 @@
+ghost use Rattle.std.specs.Prelude.{◌≡◌, ◌≢◌, ◌+◌, ◌≤◌, ◌↔◌, [], ◌∷◌, ◌++◌, length, slice_get, IsTrue, IfOk, OnOk, IfErr, OnErr};
+ghost use Rattle.std.specs.Option.{option_copied};
+ghost use Rattle.channel_core.specs.Index.{message_at};
+
+use std::alloc::Global;
+use std::marker::Model;
+
+use love_base::Stamp;
+use variant::Variant;
+
+use crate::{Change, Entry, PutFault};
+
+/// How many entries a history has at most when a message is put or taken.
+const ENTRY_LIMIT: usize = 2_000_000;
+
+/// The message of the entry at this place of a history, counted from 0, if it sends one.
+fn message_at(history: &[Entry], place: u32) -> Option<&Variant>
+    ensures { option_copied result ≡ message_at history.now place }
+{
+    let entry = history.get(place as usize)?;
+    entry.what.message()
+}
+
+/// The place of the message after the first `taken` ones.
+fn place_of(puts: &[u32], taken: u32) -> Option<u32>
+    ensures { result ≡ slice_get puts.now taken }
+{
+    puts.get(taken as usize).copied()
+}
+
+/// A queue of messages, and the history of all that was done to it.
+///
+/// A message is kept once, in the entry that put it. Beside the history stand the places of
+/// these entries, in order, so that message `k` is found in one step.
+#[derive(Debug, Drop)]
+pub struct Channel {
+    history: Vec<Entry>,
+    puts: Vec<u32>,
+    taken: u32,
+}
+
+// Contracts see a Channel as its history, the list of its entries.
+impl Model for Channel {
+    ghost use Rattle.std.specs.Prelude.{List};
+    ghost use Rattle.channel_core.specs.declared.entry.Entry.{Entry};
+
+    ghost Value = { List Entry };
+
+    ghost use Rattle.channel_core.specs.Index.{IsIndexed};
+
+    ghost view = { λ c. c.history.items };
+
+    ghost invariant = { λ c. IsIndexed c.history.items c.puts.items c.taken };
+}
+
+impl Channel {
+    ghost use Rattle.channel_core.specs.History.{sent, received, queue, front, entry_limit, put_by, take_by, IsLater, IsLawful, IfTaken, UnlessTaken};
+
+    /// A Channel that nothing was done to yet. It takes no memory.
+    pub fn new(alloc: Global) -> Channel
+        ensures { result ≡ [] }
+    {
+        Channel {
+            history: Vec::new(alloc),
+            puts: Vec::new(alloc),
+            taken: 0,
+        }
+    }
+
+    /// Sends a message, and gives the place of its entry in the history and the message's id,
+    /// both counted from 1.
+    ///
+    /// The cost doesn't grow with the history, but for the moving of it when its room doubles.
+    ///
+    /// # Errors
+    /// The message comes back with `Full` where the history has 2,000,000 entries or more, and
+    /// with `Memory` where there is none for the entry.
+    pub fn put(&mut self, by: Stamp, value: Variant) -> Result<(u32, u32), (Variant, PutFault)>
+        requires later { IsLater self.old by }
+        ensures entry { OnOk result (self.new ≡ self.old ++ put_by by value ∷ []) }
+        ensures place { IfOk result (λ (place, id). place ≡ length self.old + 1) }
+        ensures id { IfOk result (λ (place, id). id ≡ sent self.old + 1) }
+        ensures full { (result ≡ Err (value, PutFault.Full)) ↔ (entry_limit ≤ length self.old) }
+        ensures returned { IfErr result (λ (message, fault). message ≡ value) }
+        ensures unchanged { OnErr result (self.new ≡ self.old) }
+    {
+        if self.is_full() {
+            return Err((value, PutFault::Full));
+        }
+        if self.history.reserve(1).is_err() || self.puts.reserve(1).is_err() {
+            return Err((value, PutFault::Memory));
+        }
+        let place = self.history.len() as u32;
+        let what = Change::Put(value);
+        self.puts.push(place).unwrap();
+        self.history.push(Entry { by, what }).unwrap();
+        Ok((place + 1, self.puts.len() as u32))
+    }
+
+    /// Receives the first waiting message, and gives the place of the new entry in the history,
+    /// the message's id and a copy of the message; `None` where none waits.
+    ///
+    /// The cost doesn't grow with the history, but for the moving of it when its room doubles.
+    ///
+    /// # Errors
+    /// `Full` where a message waits and the history has 2,000,000 entries or more, `Memory` where
+    /// there is none for the entry or the copy.
+    pub fn take(&mut self, by: Stamp) -> Result<Option<(u32, u32, Variant)>, PutFault>
+        requires later { IsLater self.old by }
+        ensures none { (result ≡ Ok None) ↔ (queue self.old ≡ []) }
+        ensures entry { IfTaken result (λ _. self.new ≡ self.old ++ take_by by ∷ []) }
+        ensures place { IfTaken result (λ (place, id, message). place ≡ length self.old + 1) }
+        ensures id { IfTaken result (λ (place, id, message). id ≡ received self.old + 1) }
+        ensures message { IfTaken result (λ (place, id, message). front self.old ≡ Some message) }
+        ensures full { (result ≡ Err PutFault.Full) ↔ ((queue self.old ≢ []) × (entry_limit ≤ length self.old)) }
+        ensures unchanged { UnlessTaken result (self.new ≡ self.old) }
+    {
+        let Some(message) = self.front() else {
+            return Ok(None);
+        };
+        if self.is_full() {
+            return Err(PutFault::Full);
+        }
+        let message = message.copy(*self.history.allocator())?;
+        let what = Change::Take;
+        self.history.push(Entry { by, what })?;
+        self.taken += 1;
+        Ok(Some((self.history.len() as u32, self.taken, message)))
+    }
+
+    /// All that was done to this Channel, from the first entry on. It takes no memory.
+    pub fn history(&self) -> &[Entry]
+        ensures entries { result.now ≡ self.now }
+        ensures lawful { IsLawful self.now }
+    {
+        self.history.as_slice()
+    }
+
+    /// How many messages were sent. It is a read, and takes no memory.
+    pub fn sent(&self) -> u32
+        ensures { result ≡ sent self.now }
+    {
+        self.puts.len() as u32
+    }
+
+    /// How many messages were received. It is a read, and takes no memory.
+    pub fn received(&self) -> u32
+        ensures { result ≡ received self.now }
+    {
+        self.taken
+    }
+
+    /// The first waiting message.
+    fn front(&self) -> Option<&Variant>
+        ensures { option_copied result ≡ front self.now }
+    {
+        let place = place_of(&self.puts, self.taken)?;
+        message_at(&self.history, place)
+    }
+
+    /// Whether a message is neither put nor taken any more.
+    fn is_full(&self) -> bool
+        ensures { IsTrue result ↔ (entry_limit ≤ length self.now) }
+    {
+        self.history.len() >= ENTRY_LIMIT
+    }
+}

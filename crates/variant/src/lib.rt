@@ -1,0 +1,6 @@
+//! The messages that Lua states send one another.
+#![tactic(auto)]
+
+mod message;
+
+pub use message::Variant;
