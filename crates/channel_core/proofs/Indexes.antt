@@ -1,14 +1,16 @@
 -- The places of the messages, after one more entry.
-use Rattle.std.proofs.Common.{◌≡◌, ◌≢◌, ℕ, ◌+◌, ◌≤◌, suc, zero, List, [], ◌∷◌, ◌++◌, length, Option, Some, None, refl, sym, ap, ◌∙◌, arith}
+use Rattle.std.proofs.Common.{◌≡◌, ◌≢◌, ℕ, ◌+◌, ◌<◌, ◌≤◌, suc, zero, List, [], ◌∷◌, ◌++◌, length, Option, Some, None, refl, sym, ap, ◌∙◌, arith}
 use Rattle.std.specs.List.{slice_get, AllZip}
 use Rattle.std.specs.Option.{option_and_then}
 use Rattle.love_base.specs.declared.stamp.Stamp.{Stamp}
 use Rattle.variant.specs.declared.message.Variant.{Variant}
 use Rattle.channel_core.specs.declared.entry.Entry.{Entry}
 use Rattle.channel_core.specs.declared.entry.Change.TheVariants.{Put, Take}
-use Rattle.channel_core.specs.History.{messages, received, sent, front, queue, put_by, take_by, HasRoom, IsLater}
+use Rattle.channel_core.specs.History.{sent_messages, received, sent, front, queue, put_by, take_by}
+use Rattle.channel_core.specs.Lawful.{entry_limit, IsLater, MayFollow}
 use Rattle.channel_core.specs.Index.{message_at, IsIndexed}
-use Rattle.channel_core.proofs.Histories.{messages-put, messages-take, received-put, received-take, length-messages, sent-le-length, front-messages, IsLawful-push}
+use Rattle.channel_core.proofs.Histories.{sent_messages-put, sent_messages-take, received-put, received-take, length-sent_messages, sent-le-length, front-sent_messages}
+use Rattle.channel_core.proofs.Lawfulness.{AtEach-push}
 
 -- an entry keeps its place
 message_at-append : (h more : List Entry) (place : ℕ) (m : Variant) → message_at h place ≡ Some m → message_at (h ++ more) place ≡ Some m
@@ -50,22 +52,22 @@ length-places h (p ∷ ps) [] all = absurd all
 length-places h (p ∷ ps) (m ∷ ms) all = ap (λ n. suc n) (length-places h ps ms all.1)
 
 pub length-puts : (h : List Entry) (puts : List ℕ) (taken : ℕ) → IsIndexed h puts taken → length puts ≡ sent h
-length-puts h puts taken index = length-places h puts (messages h) index.places ∙ length-messages h
+length-puts h puts taken index = length-places h puts (sent_messages h) index.places ∙ length-sent_messages h
 
 pub front-by_place : (h : List Entry) (puts : List ℕ) (taken : ℕ) → IsIndexed h puts taken → front h ≡ option_and_then (message_at h) (slice_get puts taken)
-front-by_place h puts taken index = rw index.count (front-messages h ∙ message-by_place h puts (messages h) (received h) index.places)
+front-by_place h puts taken index = rw index.count (front-sent_messages h ∙ message-by_place h puts (sent_messages h) (received h) index.places)
 
-pub IsIndexed-put : (h : List Entry) (puts : List ℕ) (taken : ℕ) (by : Stamp) (m : Variant) → IsIndexed h puts taken → HasRoom h → IsLater h by → IsIndexed (h ++ put_by by m ∷ []) (puts ++ length h ∷ []) taken
+pub IsIndexed-put : (h : List Entry) (puts : List ℕ) (taken : ℕ) (by : Stamp) (m : Variant) → IsIndexed h puts taken → length h < entry_limit → IsLater h by → IsIndexed (h ++ put_by by m ∷ []) (puts ++ length h ∷ []) taken
 IsIndexed-put h puts taken by m index room later = record {
-  lawful = IsLawful-push h (put_by by m) index.lawful (record { finds = room; later = later });
-  places = rw (messages-put h by m) (places-push _ puts (messages h) (length h) m (places-append h _ puts (messages h) index.places) (message_at-put h by m));
+  lawful = AtEach-push MayFollow h (put_by by m) index.lawful (record { message = tt; room = room; number = later });
+  places = rw (sent_messages-put h by m) (places-push _ puts (sent_messages h) (length h) m (places-append h _ puts (sent_messages h) index.places) (message_at-put h by m));
   count = index.count ∙ sym (received-put h by m);
 }
 
-pub IsIndexed-take : (h : List Entry) (puts : List ℕ) (taken : ℕ) (by : Stamp) → IsIndexed h puts taken → queue h ≢ [] → HasRoom h → IsLater h by → IsIndexed (h ++ take_by by ∷ []) puts (taken + 1)
+pub IsIndexed-take : (h : List Entry) (puts : List ℕ) (taken : ℕ) (by : Stamp) → IsIndexed h puts taken → queue h ≢ [] → length h < entry_limit → IsLater h by → IsIndexed (h ++ take_by by ∷ []) puts (taken + 1)
 IsIndexed-take h puts taken by index waits room later = record {
-  lawful = IsLawful-push h (take_by by) index.lawful (record { finds = (waits, room); later = later });
-  places = rw (messages-take h by) (places-append h _ puts (messages h) index.places);
+  lawful = AtEach-push MayFollow h (take_by by) index.lawful (record { message = waits; room = room; number = later });
+  places = rw (sent_messages-take h by) (places-append h _ puts (sent_messages h) index.places);
   count = ap (λ n. n + 1) index.count ∙ sym (received-take h by);
 }
 

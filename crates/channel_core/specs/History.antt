@@ -1,21 +1,34 @@
--- The history of a Channel, and what a Channel is after it.
-use Rattle.std.specs.Prelude.{◌≡◌, ◌≢◌, ℕ, ◌+◌, ◌<◌, List, [], ◌∷◌, ◌++◌, length, drop, fold, slice_get, All, Option, Some, None, Result, Ok, Err}
+-- What a Channel is after a history: the messages, the counts and the queue.
+use Rattle.std.specs.Prelude.{ℕ, suc, zero, ◌+◌, List, [], ◌∷◌, ◌++◌, drop, fold, slice_get, Option, Some, None}
 use Rattle.std.specs.List.{filter_map}
+use Rattle.std.specs.Option.{option_to_list}
 use Rattle.love_base.specs.declared.stamp.Stamp.{Stamp}
 use Rattle.variant.specs.declared.message.Variant.{Variant}
 use Rattle.channel_core.specs.declared.entry.Entry.{Entry}
 use Rattle.channel_core.specs.declared.entry.Change.{Change}
 use Rattle.channel_core.specs.declared.entry.Change.TheVariants.{Put, Take}
-use Rattle.channel_core.specs.declared.fault.PutFault.{PutFault}
+
+-- the entry of a message that is put
+abbrev pub put_by : Stamp → Variant → Entry
+put_by by message = record { by = by; what = Put message }
+
+-- the entry of a message that is taken
+abbrev pub take_by : Stamp → Entry
+take_by by = record { by = by; what = Take }
 
 -- the message that a change sends
 abbrev pub sent_by : Change → Option Variant
 sent_by (Put message) = Some message
 sent_by Take = None
 
--- the messages that were sent, in order: message k is the k-th of them, counted from 1
-abbrev pub messages : List Entry → List Variant
-messages h = filter_map (λ e. sent_by e.what) h
+-- the messages that were sent, in order
+abbrev pub sent_messages : List Entry → List Variant
+sent_messages h = filter_map (λ e. sent_by e.what) h
+
+-- message k, counted from 1: the k-th one that was sent
+abbrev pub message : List Entry → ℕ → Option Variant
+message h zero = None
+message h (suc k) = slice_get (sent_messages h) k
 
 -- how many messages were sent, and how many of them were received
 pub record Counts : Type 0 where
@@ -39,56 +52,24 @@ sent h = (counts h).sent
 abbrev pub received : List Entry → ℕ
 received h = (counts h).received
 
--- the messages that wait: those that were sent, but for the received ones
+-- the messages that wait: all that were sent, but for the first ones, which were received
 abbrev pub queue : List Entry → List Variant
-queue h = drop (received h) (messages h)
+queue h = drop (received h) (sent_messages h)
 
--- the message that waits longest
+-- the message that has waited longest
 abbrev pub front : List Entry → Option Variant
 front h = slice_get (queue h) 0
 
--- how many entries a history has at most when a message is put or taken
-abbrev pub entry_limit : ℕ
-entry_limit = 2000000
+-- the messages that a change receives, where these entries stand before it
+abbrev pub received_by : List Entry → Change → List Variant
+received_by before (Put message) = []
+received_by before Take = option_to_list (front before)
 
--- there is room in the history for one more change
-abbrev pub HasRoom : List Entry → Type 0
-HasRoom h = length h < entry_limit
+-- the messages that the entries `es` receive, in order, where others stand before them
+abbrev pub received_through : List Entry → List Entry → List Variant
+received_through before [] = []
+received_through before (e ∷ es) = received_by before e.what ++ received_through (before ++ e ∷ []) es
 
--- what a change finds, in the history before it
-abbrev pub Finds : List Entry → Change → Type 0
-Finds h (Put message) = HasRoom h
-Finds h Take = (queue h ≢ []) × HasRoom h
-
--- the number is greater than each one that this state has in the history
-abbrev pub IsLater : List Entry → Stamp → Type 0
-IsLater h by = All (λ e. e.by.state ≡ by.state → e.by.number < by.number) h
-
--- an entry that may follow a history
-pub record MayFollow (h : List Entry) (e : Entry) : Type 0 where
-  pub finds : Finds h e.what
-  pub later : IsLater h e.by
-
--- each entry may follow the ones before it
-abbrev pub IsLawful : List Entry → Type 0
-IsLawful h = (before : List Entry) (e : Entry) (after : List Entry) → h ≡ before ++ e ∷ after → MayFollow before e
-
--- the entry of a message that was put
-abbrev pub put_by : Stamp → Variant → Entry
-put_by by message = record { by = by; what = Put message }
-
--- the entry of a message that was taken
-abbrev pub take_by : Stamp → Entry
-take_by by = record { by = by; what = Take }
-
--- a fact on what was taken, where a message was
-abbrev pub IfTaken : {A : Type 0} → Result (Option A) PutFault → (A → Type 0) → Type 0
-IfTaken (Ok (Some taken)) P = P taken
-IfTaken (Ok None) P = Unit {0}
-IfTaken (Err fault) P = Unit {0}
-
--- a fact for where no message was taken
-abbrev pub UnlessTaken : {A : Type 0} → Result (Option A) PutFault → Type 0 → Type 0
-UnlessTaken (Ok (Some taken)) P = Unit {0}
-UnlessTaken (Ok None) P = P
-UnlessTaken (Err fault) P = P
+-- the messages that were received, in order
+abbrev pub received_messages : List Entry → List Variant
+received_messages h = received_through [] h

@@ -54,7 +54,9 @@ impl Model for Channel {
 }
 
 impl Channel {
-    ghost use Rattle.channel_core.specs.History.{sent, received, queue, front, entry_limit, put_by, take_by, IsLater, IsLawful, IfTaken, UnlessTaken};
+    ghost use Rattle.channel_core.specs.History.{put_by, take_by, sent_messages, received_messages, message, sent, received, queue, front};
+    ghost use Rattle.channel_core.specs.Lawful.{entry_limit, IsLater, IsLawful};
+    ghost use Rattle.channel_core.specs.Taking.{IfTaken, UnlessTaken};
 
     /// A Channel that nothing was done to yet. It takes no memory.
     pub fn new(alloc: Global) -> Channel
@@ -80,8 +82,9 @@ impl Channel {
         ensures entry { OnOk result (self.new ≡ self.old ++ put_by by value ∷ []) }
         ensures place { IfOk result (λ (place, id). place ≡ length self.old + 1) }
         ensures id { IfOk result (λ (place, id). id ≡ sent self.old + 1) }
+        ensures numbered { IfOk result (λ (place, id). message self.new id ≡ Some value) }
         ensures full { (result ≡ Err (value, PutFault.Full)) ↔ (entry_limit ≤ length self.old) }
-        ensures returned { IfErr result (λ (message, fault). message ≡ value) }
+        ensures returned { IfErr result (λ (given, fault). given ≡ value) }
         ensures unchanged { OnErr result (self.new ≡ self.old) }
     {
         if self.is_full() {
@@ -109,9 +112,10 @@ impl Channel {
         requires later { IsLater self.old by }
         ensures none { (result ≡ Ok None) ↔ (queue self.old ≡ []) }
         ensures entry { IfTaken result (λ _. self.new ≡ self.old ++ take_by by ∷ []) }
-        ensures place { IfTaken result (λ (place, id, message). place ≡ length self.old + 1) }
-        ensures id { IfTaken result (λ (place, id, message). id ≡ received self.old + 1) }
-        ensures message { IfTaken result (λ (place, id, message). front self.old ≡ Some message) }
+        ensures place { IfTaken result (λ (place, id, value). place ≡ length self.old + 1) }
+        ensures id { IfTaken result (λ (place, id, value). id ≡ received self.old + 1) }
+        ensures first { IfTaken result (λ (place, id, value). front self.old ≡ Some value) }
+        ensures numbered { IfTaken result (λ (place, id, value). message self.old id ≡ Some value) }
         ensures full { (result ≡ Err PutFault.Full) ↔ ((queue self.old ≢ []) × (entry_limit ≤ length self.old)) }
         ensures unchanged { UnlessTaken result (self.new ≡ self.old) }
     {
@@ -132,6 +136,7 @@ impl Channel {
     pub fn history(&self) -> &[Entry]
         ensures entries { result.now ≡ self.now }
         ensures lawful { IsLawful self.now }
+        ensures in_order { sent_messages self.now ≡ received_messages self.now ++ queue self.now }
     {
         self.history.as_slice()
     }

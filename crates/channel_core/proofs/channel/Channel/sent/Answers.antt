@@ -1,6 +1,7 @@
 use Rattle.std.proofs.Common.{ap, ◌∙◌, arith, ◌≤◌, length}
-use Rattle.channel_core.specs.History.{sent, entry_limit}
-use Rattle.channel_core.proofs.Histories.{length-lawful}
+use Rattle.channel_core.specs.History.{sent}
+use Rattle.channel_core.specs.Lawful.{entry_limit}
+use Rattle.channel_core.proofs.Lawfulness.{length-lawful}
 use Rattle.channel_core.proofs.Indexes.{length-puts, length-puts-le}
 use Rattle.channel_core.proofs.channel.Channel.sent.Goals as goal
 
