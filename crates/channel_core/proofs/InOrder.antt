@@ -35,12 +35,14 @@ sent_in_order = by_entries (λ h. HasMessages h → sent_messages h ≡ received
     first_and_rest : (q : List Variant) → option_to_list (slice_get q 0) ++ drop 1 q ≡ q
     first_and_rest [] = refl
     first_and_rest (m ∷ ms) = refl
+
     with_put : (h : List Entry) (by : Stamp) (m : Variant) → sent_messages h ≡ received_messages h ++ queue h → HasMessages h → sent_messages (h ++ put_by by m ∷ []) ≡ received_messages (h ++ put_by by m ∷ []) ++ queue (h ++ put_by by m ∷ [])
     with_put h by m so_far each =
         sent_messages-put h by m
         ∙ ap (λ ms. ms ++ m ∷ []) so_far
         ∙ append_assoc (received_messages h) (queue h) (m ∷ [])
         ∙ ap₂ ◌++◌ (sym (received_messages-put h by m)) (sym (queue-put h by m (received-le-sent h each)))
+
     with_take : (h : List Entry) (by : Stamp) → sent_messages h ≡ received_messages h ++ queue h → sent_messages (h ++ take_by by ∷ []) ≡ received_messages (h ++ take_by by ∷ []) ++ queue (h ++ take_by by ∷ [])
     with_take h by so_far =
         sent_messages-take h by
@@ -48,6 +50,7 @@ sent_in_order = by_entries (λ h. HasMessages h → sent_messages h ≡ received
         ∙ ap (λ q. received_messages h ++ q) (sym (first_and_rest (queue h)))
         ∙ sym (append_assoc (received_messages h) (option_to_list (front h)) (drop 1 (queue h)))
         ∙ ap₂ ◌++◌ (sym (received_messages-push h (take_by by))) (sym (queue-take h by))
+
     step : (h : List Entry) (e : Entry) → sent_messages h ≡ received_messages h ++ queue h → HasMessages h → sent_messages (h ++ e ∷ []) ≡ received_messages (h ++ e ∷ []) ++ queue (h ++ e ∷ [])
     step h e so_far each = elim e.what as (λ w. sent_messages (h ++ record e { what = w } ∷ []) ≡ received_messages (h ++ record e { what = w } ∷ []) ++ queue (h ++ record e { what = w } ∷ [])) [
       | Put m ↦ with_put h e.by m so_far each

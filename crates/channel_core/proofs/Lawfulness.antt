@@ -1,16 +1,15 @@
 -- Which entries keep a history lawful, and what every lawful history has.
 use Rattle.std.proofs.Common.{◌≡◌, ◌≢◌, ◌↔◌, ℕ, ◌+◌, ◌<◌, ◌≤◌, Bool, false, IsTrue, List, [], ◌∷◌, ◌++◌, length, refl, sym, ap, subst, ◌∙◌, inl, inr, arith, append-nil, append_assoc, length-append}
-use Rattle.std.specs.List.{All}
 use Rattle.std.proofs.lemmas.Bool.{cases_lt, false≢true}
 use Rattle.std.proofs.lemmas.List.{same_from_push}
-use Rattle.std.proofs.lemmas.List.Elements.{All-push, All-weaker}
+use Rattle.std.proofs.lemmas.List.Elements.{All-nil, All-push, All-weaker}
 use Rattle.love_base.specs.declared.stamp.Stamp.{Stamp}
 use Rattle.variant.specs.declared.message.Variant.{Variant}
 use Rattle.channel_core.specs.declared.entry.Entry.{Entry}
 use Rattle.channel_core.specs.declared.entry.Change.{Change}
 use Rattle.channel_core.specs.declared.entry.Change.TheVariants.{Put, Take}
 use Rattle.channel_core.specs.History.{Counts, counts_after, counts, sent, received, queue}
-use Rattle.channel_core.specs.Lawful.{entry_limit, FindsMessage, FindsRoom, IsLater, MayFollow, AtEach, HasMessages, IsLawful}
+use Rattle.channel_core.specs.Lawful.{entry_limit, FindsMessage, FindsRoom, IsLater, NumbersBelow, MayFollow, AtEach, HasMessages, IsLawful}
 use Rattle.channel_core.proofs.Histories.{counts-push, waits-lt}
 
 -- a list with an item has a last one
@@ -64,6 +63,7 @@ received-le-sent = by_entries (λ h. HasMessages h → received h ≤ sent h) (�
     after_change : (h : List Entry) (c : Change) → received h ≤ sent h → FindsMessage h c → (counts_after (counts h) c).received ≤ (counts_after (counts h) c).sent
     after_change h (Put m) below finds = omega arith
     after_change h Take below finds = omega (arith, waits-lt h finds)
+
     step : (h : List Entry) (e : Entry) → received h ≤ sent h → FindsMessage h e.what → received (h ++ e ∷ []) ≤ sent (h ++ e ∷ [])
     step h e below finds = subst (λ (n : Counts). n.received ≤ n.sent) (sym (counts-push h e)) (after_change h e.what below finds)
 
@@ -87,9 +87,14 @@ room_below h full says test = elim (cases_lt (length h) entry_limit) [
 ]
 
 -- a number above all others is above those of its state
-pub IsLater-above : (h : List Entry) (by : Stamp) → All (λ (e : Entry). e.by.number < by.number) h → IsLater h by
-IsLater-above h by all = All-weaker (λ (e : Entry). e.by.number < by.number) (λ (e : Entry). e.by.state ≡ by.state → e.by.number < by.number) (λ e below _. below) h all
+pub IsLater-below : (h : List Entry) (by : Stamp) → NumbersBelow by.number h → IsLater h by
+IsLater-below h by below = All-weaker (λ (e : Entry). e.by.number < by.number) (λ (e : Entry). e.by.state ≡ by.state → e.by.number < by.number) (λ e less _. less) h below
 
--- numbers that stay below a rising bound
-pub numbers_below-push : (h : List Entry) (e : Entry) (n m : ℕ) → All (λ (e : Entry). e.by.number < n) h → n ≤ m → e.by.number < m → All (λ (e : Entry). e.by.number < m) (h ++ e ∷ [])
-numbers_below-push h e n m all rises here = All-push (λ (e : Entry). e.by.number < m) h e (All-weaker (λ (e : Entry). e.by.number < n) (λ (e : Entry). e.by.number < m) (λ e below. omega arith) h all) here
+pub NumbersBelow-nil : (n : ℕ) → NumbersBelow n []
+NumbersBelow-nil n = All-nil (λ (e : Entry). e.by.number < n)
+
+pub NumbersBelow-weaker : (h : List Entry) (n m : ℕ) → NumbersBelow n h → n ≤ m → NumbersBelow m h
+NumbersBelow-weaker h n m below rises = All-weaker (λ (e : Entry). e.by.number < n) (λ (e : Entry). e.by.number < m) (λ e less. omega arith) h below
+
+pub NumbersBelow-push : (h : List Entry) (e : Entry) (n : ℕ) → NumbersBelow n h → e.by.number < n → NumbersBelow n (h ++ e ∷ [])
+NumbersBelow-push h e n below here = All-push (λ (e : Entry). e.by.number < n) h e below here

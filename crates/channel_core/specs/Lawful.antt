@@ -24,6 +24,10 @@ FindsRoom before Take = length before < entry_limit
 abbrev pub IsLater : List Entry → Stamp → Type 0
 IsLater before by = All (λ e. e.by.state ≡ by.state → e.by.number < by.number) before
 
+-- entries whose numbers are all below n, whatever their states
+abbrev pub NumbersBelow : ℕ → List Entry → Type 0
+NumbersBelow n h = All (λ e. e.by.number < n) h
+
 -- an entry that may follow these ones
 pub record MayFollow (before : List Entry) (e : Entry) : Type 0 where
   pub message : FindsMessage before e.what

@@ -2,13 +2,11 @@ ghost use Rattle.std.specs.Prelude.{◌≡◌, ◌≢◌, ◌+◌, ◌≤◌, �
 ghost use Rattle.std.specs.Option.{option_copied};
 ghost use Rattle.channel_core.specs.Index.{message_at};
 
+use crate::{Change, Entry, PutFault};
+use love_base::Stamp;
 use std::alloc::Global;
 use std::marker::Model;
-
-use love_base::Stamp;
 use variant::Variant;
-
-use crate::{Change, Entry, PutFault};
 
 /// How many entries a history has at most when a message is put or taken.
 const ENTRY_LIMIT: usize = 2_000_000;
