@@ -1,11 +1,10 @@
 -- Messages are received in the order in which they were sent, and none is lost or doubled.
-use Rattle.std.proofs.Common.{◌≡◌, ◌≤◌, List, [], ◌∷◌, ◌++◌, length, drop, take, Some, refl, sym, ap, ap₂, ◌∙◌, arith, append-nil, append_assoc}
+use Rattle.std.proofs.Common.{◌≡◌, List, [], ◌∷◌, ◌++◌, drop, Some, refl, sym, ap, ap₂, ◌∙◌, append-nil, append_assoc}
 use Rattle.std.specs.List.{slice_get}
 use Rattle.std.specs.Option.{option_to_list}
 use Rattle.love_base.specs.declared.stamp.Stamp.{Stamp}
 use Rattle.variant.specs.declared.message.Variant.{Variant}
 use Rattle.channel_core.specs.declared.entry.Entry.{Entry}
-use Rattle.channel_core.specs.declared.entry.Change.{Change}
 use Rattle.channel_core.specs.declared.entry.Change.TheVariants.{Put, Take}
 use Rattle.channel_core.specs.History.{put_by, take_by, sent_messages, queue, front, received_by, received_through, received_messages}
 use Rattle.channel_core.specs.Lawful.{HasMessages}

@@ -1,11 +1,10 @@
 -- The places of the messages, after one more entry.
-use Rattle.std.proofs.Common.{◌≡◌, ◌≢◌, ℕ, ◌+◌, ◌<◌, ◌≤◌, suc, zero, List, [], ◌∷◌, ◌++◌, length, Option, Some, None, refl, sym, ap, ◌∙◌, arith}
+use Rattle.std.proofs.Common.{◌≡◌, ◌≢◌, ℕ, ◌+◌, ◌<◌, ◌≤◌, suc, zero, List, [], ◌∷◌, ◌++◌, length, Some, None, refl, sym, ap, ◌∙◌, arith}
 use Rattle.std.specs.List.{slice_get, AllZip}
 use Rattle.std.specs.Option.{option_and_then}
 use Rattle.love_base.specs.declared.stamp.Stamp.{Stamp}
 use Rattle.variant.specs.declared.message.Variant.{Variant}
 use Rattle.channel_core.specs.declared.entry.Entry.{Entry}
-use Rattle.channel_core.specs.declared.entry.Change.TheVariants.{Put, Take}
 use Rattle.channel_core.specs.History.{sent_messages, received, sent, front, queue, put_by, take_by}
 use Rattle.channel_core.specs.Lawful.{entry_limit, IsLater, MayFollow}
 use Rattle.channel_core.specs.Index.{message_at, IsIndexed}

@@ -1,15 +1,14 @@
 -- Which entries keep a history lawful, and what every lawful history has.
-use Rattle.std.proofs.Common.{◌≡◌, ◌≢◌, ◌↔◌, ℕ, ◌+◌, ◌<◌, ◌≤◌, Bool, false, IsTrue, List, [], ◌∷◌, ◌++◌, length, refl, sym, ap, subst, ◌∙◌, inl, inr, arith, append-nil, append_assoc, length-append}
+use Rattle.std.proofs.Common.{◌≡◌, ◌↔◌, ℕ, ◌<◌, ◌≤◌, Bool, false, IsTrue, List, [], ◌∷◌, ◌++◌, length, refl, sym, ap, subst, ◌∙◌, inl, inr, arith, append-nil, append_assoc, length-append}
 use Rattle.std.proofs.lemmas.Bool.{cases_lt, false≢true}
 use Rattle.std.proofs.lemmas.List.{same_from_push}
 use Rattle.std.proofs.lemmas.List.Elements.{All-nil, All-push, All-weaker}
 use Rattle.love_base.specs.declared.stamp.Stamp.{Stamp}
-use Rattle.variant.specs.declared.message.Variant.{Variant}
 use Rattle.channel_core.specs.declared.entry.Entry.{Entry}
 use Rattle.channel_core.specs.declared.entry.Change.{Change}
 use Rattle.channel_core.specs.declared.entry.Change.TheVariants.{Put, Take}
-use Rattle.channel_core.specs.History.{Counts, counts_after, counts, sent, received, queue}
-use Rattle.channel_core.specs.Lawful.{entry_limit, FindsMessage, FindsRoom, IsLater, NumbersBelow, MayFollow, AtEach, HasMessages, IsLawful}
+use Rattle.channel_core.specs.History.{Counts, counts_after, counts, sent, received}
+use Rattle.channel_core.specs.Lawful.{entry_limit, FindsMessage, FindsRoom, IsLater, NumbersBelow, AtEach, HasMessages, IsLawful}
 use Rattle.channel_core.proofs.Histories.{counts-push, waits-lt}
 
 -- a list with an item has a last one

@@ -8,7 +8,7 @@ use std::alloc::Global;
 use std::marker::Model;
 use variant::Variant;
 
-/// How many entries a history has at most when a message is put or taken.
+/// The number of entries from which on a history takes no further message and gives none. It is this project's own.
 const ENTRY_LIMIT: usize = 2_000_000;
 
 /// The message of the entry at this place of a history, counted from 0, if it sends one.
@@ -26,10 +26,10 @@ fn place_of(puts: &[u32], taken: u32) -> Option<u32>
     puts.get(taken as usize).copied()
 }
 
-/// A queue of messages, and the history of all that was done to it.
+/// A queue of messages between states, and the history of all that was done to it (LÖVE wiki, `Channel`).
 ///
-/// A message is kept once, in the entry that put it. Beside the history stand the places of
-/// these entries, in order, so that message `k` is found in one step.
+/// A message is stored once, in the entry that put it. Beside the history stand the places of these entries, in order,
+/// so that each message is found by its number in one step.
 #[derive(Debug, Drop)]
 pub struct Channel {
     history: Vec<Entry>,
@@ -56,7 +56,7 @@ impl Channel {
     ghost use Rattle.channel_core.specs.Lawful.{entry_limit, IsLater, IsLawful};
     ghost use Rattle.channel_core.specs.Taking.{IfTaken, UnlessTaken};
 
-    /// A Channel that nothing was done to yet. It takes no memory.
+    /// A Channel that nothing was done to yet, in constant time. It takes no memory until a message is put.
     pub fn new(alloc: Global) -> Channel
         ensures { result ≡ [] }
     {
@@ -67,14 +67,15 @@ impl Channel {
         }
     }
 
-    /// Sends a message, and gives the place of its entry in the history and the message's id,
-    /// both counted from 1.
+    /// Sends a message (LÖVE wiki, `Channel:push`). It gives the place of the new entry in the history, and the message's
+    /// id, which counts the messages that were ever sent. Both begin at 1.
     ///
-    /// The cost doesn't grow with the history, but for the moving of it when its room doubles.
+    /// Amortised constant time, whatever the length of the history: the message is moved in and not copied.
     ///
     /// # Errors
-    /// The message comes back with `Full` where the history has 2,000,000 entries or more, and
-    /// with `Memory` where there is none for the entry.
+    ///
+    /// The message again, with [`PutFault::Full`] where the history has 2,000,000 entries or more, and with
+    /// [`PutFault::Memory`] where there is no room for the entry.
     pub fn put(&mut self, by: Stamp, value: Variant) -> Result<(u32, u32), (Variant, PutFault)>
         requires later { IsLater self.old by }
         ensures entry { OnOk result (self.new ≡ self.old ++ put_by by value ∷ []) }
@@ -92,20 +93,21 @@ impl Channel {
             return Err((value, PutFault::Memory));
         }
         let place = self.history.len() as u32;
-        let what = Change::Put(value);
         self.puts.push(place).unwrap();
+        let what = Change::Put(value);
         self.history.push(Entry { by, what }).unwrap();
         Ok((place + 1, self.puts.len() as u32))
     }
 
-    /// Receives the first waiting message, and gives the place of the new entry in the history,
-    /// the message's id and a copy of the message; `None` where none waits.
+    /// Receives the message that has waited longest (LÖVE wiki, `Channel:pop`). It gives the place of the new entry in the
+    /// history, the message's id and the message; `None` where none waits, also at the limit of the history.
     ///
-    /// The cost doesn't grow with the history, but for the moving of it when its room doubles.
+    /// Amortised constant time, whatever the length of the history, and the time of one copy of the message.
     ///
     /// # Errors
-    /// `Full` where a message waits and the history has 2,000,000 entries or more, `Memory` where
-    /// there is none for the entry or the copy.
+    ///
+    /// [`PutFault::Full`] where a message waits and the history has 2,000,000 entries or more; [`PutFault::Memory`] where
+    /// there is no room for the entry or the copy.
     pub fn take(&mut self, by: Stamp) -> Result<Option<(u32, u32, Variant)>, PutFault>
         requires later { IsLater self.old by }
         ensures none { (result ≡ Ok None) ↔ (queue self.old ≡ []) }
@@ -114,7 +116,8 @@ impl Channel {
         ensures id { IfTaken result (λ (place, id, value). id ≡ received self.old + 1) }
         ensures first { IfTaken result (λ (place, id, value). front self.old ≡ Some value) }
         ensures numbered { IfTaken result (λ (place, id, value). message self.old id ≡ Some value) }
-        ensures full { (result ≡ Err PutFault.Full) ↔ ((queue self.old ≢ []) × (entry_limit ≤ length self.old)) }
+        ensures full { (result ≡ Err PutFault.Full)
+            ↔ ((queue self.old ≢ []) × (entry_limit ≤ length self.old)) }
         ensures unchanged { UnlessTaken result (self.new ≡ self.old) }
     {
         let Some(message) = self.front() else {
@@ -130,7 +133,9 @@ impl Channel {
         Ok(Some((self.history.len() as u32, self.taken, message)))
     }
 
-    /// All that was done to this Channel, from the first entry on. It takes no memory.
+    /// All that was done to this Channel, from the first entry on, in constant time. It takes no memory.
+    ///
+    /// What was sent is what was received, in that order, and then what waits.
     pub fn history(&self) -> &[Entry]
         ensures entries { result.now ≡ self.now }
         ensures lawful { IsLawful self.now }
@@ -139,21 +144,21 @@ impl Channel {
         self.history.as_slice()
     }
 
-    /// How many messages were sent. It is a read, and takes no memory.
+    /// How many messages were sent: a read, which takes no memory.
     pub fn sent(&self) -> u32
         ensures { result ≡ sent self.now }
     {
         self.puts.len() as u32
     }
 
-    /// How many messages were received. It is a read, and takes no memory.
+    /// How many messages were received: a read, which takes no memory.
     pub fn received(&self) -> u32
         ensures { result ≡ received self.now }
     {
         self.taken
     }
 
-    /// The first waiting message.
+    /// The message that has waited longest.
     fn front(&self) -> Option<&Variant>
         ensures { option_copied result ≡ front self.now }
     {
@@ -161,7 +166,7 @@ impl Channel {
         message_at(&self.history, place)
     }
 
-    /// Whether a message is neither put nor taken any more.
+    /// Whether the history takes no further message and gives none.
     fn is_full(&self) -> bool
         ensures { IsTrue result ↔ (entry_limit ≤ length self.now) }
     {

@@ -4,19 +4,21 @@ ghost use Rattle.std.specs.Option.{option_copied};
 use love_base::Stamp;
 use variant::Variant;
 
-/// One entry of a Channel's history: what was done, and whose action it was.
+/// One entry of a Channel's history.
 #[derive(Debug, Drop)]
 pub struct Entry {
+    /// Whose action it was, and which one.
     pub by: Stamp,
+    /// What it did.
     pub what: Change,
 }
 
 /// What an action did to a Channel.
 #[derive(Debug, Drop)]
 pub enum Change {
-    /// A message was sent (`Channel:push`).
+    /// It sent this message (LÖVE wiki, `Channel:push`).
     Put(Variant),
-    /// The first waiting message was received (`Channel:pop`).
+    /// It received the message that had waited longest (LÖVE wiki, `Channel:pop`).
     Take,
 }
 

@@ -3,19 +3,19 @@ ghost use Rattle.channel_core.specs.declared.fault.PutFault.TheVariants.{Memory 
 
 use std::alloc::AllocFailed;
 
-/// Why a Channel refused a change.
+/// Why a Channel refused a change. After it the Channel is as it was.
 #[derive(Clone, Copy, Debug, PartialEq, Eq)]
 pub enum PutFault {
     /// The history has 2,000,000 entries or more.
     Full = 1,
-    /// There was no memory.
+    /// Want of memory.
     Memory,
 }
 
 impl From<love_base::Memory> for PutFault {
     ghost from_gives = { λ _ fault. fault ≡ OutOfMemory };
 
-    fn from(_want: love_base::Memory) -> PutFault {
+    fn from(_refused: love_base::Memory) -> PutFault {
         PutFault::Memory
     }
 }
@@ -23,7 +23,7 @@ impl From<love_base::Memory> for PutFault {
 impl<T: Drop> From<AllocFailed<T>> for PutFault {
     ghost from_gives = { λ _ fault. fault ≡ OutOfMemory };
 
-    fn from(_want: AllocFailed<T>) -> PutFault {
+    fn from(_refused: AllocFailed<T>) -> PutFault {
         PutFault::Memory
     }
 }

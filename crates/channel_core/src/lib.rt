@@ -1,4 +1,4 @@
-//! A Channel of one thread: a queue of messages, and the history of what was done to it.
+//! The Channel of one thread: a queue of messages, and the history of what was done to it.
 //!
 //! `docs/CHANNEL.md` says in words what a Channel is.
 #![tactic(auto)]

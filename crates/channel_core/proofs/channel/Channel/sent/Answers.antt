@@ -1,6 +1,5 @@
-use Rattle.std.proofs.Common.{ap, ◌∙◌, arith, ◌≤◌, length}
+use Rattle.std.proofs.Common.{ap, arith}
 use Rattle.channel_core.specs.History.{sent}
-use Rattle.channel_core.specs.Lawful.{entry_limit}
 use Rattle.channel_core.proofs.Lawfulness.{length-lawful}
 use Rattle.channel_core.proofs.Indexes.{length-puts, length-puts-le}
 use Rattle.channel_core.proofs.channel.Channel.sent.Goals as goal

@@ -1,6 +1,6 @@
-use Rattle.std.proofs.Common.{◌≡◌, ◌≢◌, ◌<◌, ◌++◌, ◌∷◌, [], Some, None, ap, sym, refl, ◌∙◌, arith, length}
+use Rattle.std.proofs.Common.{◌≢◌, ◌<◌, [], ap, sym, refl, ◌∙◌, arith, length}
 use Rattle.std.specs.Option.{option_copied}
-use Rattle.channel_core.specs.History.{sent, received, queue, front, take_by}
+use Rattle.channel_core.specs.History.{received, queue}
 use Rattle.channel_core.specs.Lawful.{entry_limit}
 use Rattle.channel_core.proofs.Histories.{front-none, front-waits, sent-le-length, waits-lt}
 use Rattle.channel_core.proofs.Lawfulness.{room_below}
