@@ -1,0 +1,82 @@
+-- The places of the messages, after one more entry.
+use Rattle.std.proofs.Common.{◌≡◌, ◌≢◌, ℕ, ◌+◌, ◌<◌, ◌≤◌, suc, zero, List, [], ◌∷◌, ◌++◌, length, Some, None, refl, sym, ap, ◌∙◌, arith}
+use Rattle.std.specs.List.{slice_get, AllZip}
+use Rattle.std.specs.Option.{option_and_then}
+use Rattle.love_base.specs.declared.stamp.Stamp.{Stamp}
+use Rattle.variant.specs.declared.message.Variant.{Variant}
+use Rattle.channel_core.specs.declared.entry.Entry.{Entry}
+use Rattle.channel_core.specs.History.{sent_messages, received, sent, front, queue, put_by, take_by}
+use Rattle.channel_core.specs.Lawful.{entry_limit, IsLater, MayFollow}
+use Rattle.channel_core.specs.Index.{message_at, IsIndexed}
+use Rattle.channel_core.proofs.Histories.{sent_messages-put, sent_messages-take, received-put, received-take, length-sent_messages, sent-le-length, front-sent_messages}
+use Rattle.channel_core.proofs.Lawfulness.{AtEach-push}
+
+-- an entry keeps its place
+message_at-append : (h more : List Entry) (place : ℕ) (m : Variant) → message_at h place ≡ Some m → message_at (h ++ more) place ≡ Some m
+message_at-append [] more place m at = absurd (cc)
+message_at-append (e ∷ es) more zero m at = at
+message_at-append (e ∷ es) more (suc place) m at = message_at-append es more place m at
+
+-- the place of a new entry is the number of those before it
+message_at-put : (h : List Entry) (by : Stamp) (m : Variant) → message_at (h ++ put_by by m ∷ []) (length h) ≡ Some m
+message_at-put [] by m = refl
+message_at-put (e ∷ es) by m = message_at-put es by m
+
+-- the places stay those of these messages in a longer history
+places-append : (h more : List Entry) (puts : List ℕ) (ms : List Variant) → AllZip (λ place m. message_at h place ≡ Some m) puts ms → AllZip (λ place m. message_at (h ++ more) place ≡ Some m) puts ms
+places-append h more [] [] all = all
+places-append h more [] (m ∷ ms) all = all
+places-append h more (p ∷ ps) [] all = all
+places-append h more (p ∷ ps) (m ∷ ms) all = (message_at-append h more p m all.0, places-append h more ps ms all.1)
+
+-- one more message, at its place
+places-push : (h : List Entry) (puts : List ℕ) (ms : List Variant) (place : ℕ) (m : Variant) → AllZip (λ place m. message_at h place ≡ Some m) puts ms → message_at h place ≡ Some m → AllZip (λ place m. message_at h place ≡ Some m) (puts ++ place ∷ []) (ms ++ m ∷ [])
+places-push h [] [] place m all at = (at, all)
+places-push h [] (x ∷ xs) place m all at = absurd all
+places-push h (p ∷ ps) [] place m all at = absurd all
+places-push h (p ∷ ps) (x ∷ xs) place m all at = (all.0, places-push h ps xs place m all.1 at)
+
+-- a message is looked up by its place
+message-by_place : (h : List Entry) (puts : List ℕ) (ms : List Variant) (k : ℕ) → AllZip (λ place m. message_at h place ≡ Some m) puts ms → slice_get ms k ≡ option_and_then (message_at h) (slice_get puts k)
+message-by_place h [] [] k all = refl
+message-by_place h [] (m ∷ ms) k all = absurd all
+message-by_place h (p ∷ ps) [] k all = absurd all
+message-by_place h (p ∷ ps) (m ∷ ms) zero all = sym all.0
+message-by_place h (p ∷ ps) (m ∷ ms) (suc k) all = message-by_place h ps ms k all.1
+
+length-places : (h : List Entry) (puts : List ℕ) (ms : List Variant) → AllZip (λ place m. message_at h place ≡ Some m) puts ms → length puts ≡ length ms
+length-places h [] [] all = refl
+length-places h [] (m ∷ ms) all = absurd all
+length-places h (p ∷ ps) [] all = absurd all
+length-places h (p ∷ ps) (m ∷ ms) all = ap (λ n. suc n) (length-places h ps ms all.1)
+
+pub length-puts : (h : List Entry) (puts : List ℕ) (taken : ℕ) → IsIndexed h puts taken → length puts ≡ sent h
+length-puts h puts taken index = length-places h puts (sent_messages h) index.places ∙ length-sent_messages h
+
+pub front-by_place : (h : List Entry) (puts : List ℕ) (taken : ℕ) → IsIndexed h puts taken → front h ≡ option_and_then (message_at h) (slice_get puts taken)
+front-by_place h puts taken index = rw index.count (front-sent_messages h ∙ message-by_place h puts (sent_messages h) (received h) index.places)
+
+pub IsIndexed-put : (h : List Entry) (puts : List ℕ) (taken : ℕ) (by : Stamp) (m : Variant) → IsIndexed h puts taken → length h < entry_limit → IsLater h by → IsIndexed (h ++ put_by by m ∷ []) (puts ++ length h ∷ []) taken
+IsIndexed-put h puts taken by m index room later = record {
+  lawful = AtEach-push MayFollow h (put_by by m) index.lawful (record { message = tt; room = room; number = later });
+  places = rw (sent_messages-put h by m) (places-push _ puts (sent_messages h) (length h) m (places-append h _ puts (sent_messages h) index.places) (message_at-put h by m));
+  count = index.count ∙ sym (received-put h by m);
+}
+
+pub IsIndexed-take : (h : List Entry) (puts : List ℕ) (taken : ℕ) (by : Stamp) → IsIndexed h puts taken → queue h ≢ [] → length h < entry_limit → IsLater h by → IsIndexed (h ++ take_by by ∷ []) puts (taken + 1)
+IsIndexed-take h puts taken by index waits room later = record {
+  lawful = AtEach-push MayFollow h (take_by by) index.lawful (record { message = waits; room = room; number = later });
+  places = rw (sent_messages-take h by) (places-append h _ puts (sent_messages h) index.places);
+  count = ap (λ n. n + 1) index.count ∙ sym (received-take h by);
+}
+
+-- each message has one place, and the places are fewer than the entries
+pub length-puts-le : (h : List Entry) (puts : List ℕ) (taken : ℕ) → IsIndexed h puts taken → length puts ≤ length h
+length-puts-le h puts taken index = omega (arith, length-puts h puts taken index, sent-le-length h)
+
+-- what is in front, as the code looks it up
+pub front-past : (h : List Entry) (puts : List ℕ) (taken : ℕ) → IsIndexed h puts taken → None ≡ slice_get puts taken → None ≡ front h
+front-past h puts taken index past = sym (front-by_place h puts taken index ∙ ap (option_and_then (message_at h)) (sym past))
+
+pub front-found : (h : List Entry) (puts : List ℕ) (taken place : ℕ) → IsIndexed h puts taken → Some place ≡ slice_get puts taken → message_at h place ≡ front h
+front-found h puts taken place index found = sym (front-by_place h puts taken index ∙ ap (option_and_then (message_at h)) (sym found))

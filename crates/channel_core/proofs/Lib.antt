@@ -1,0 +1,4 @@
+pub mod Histories
+pub mod Indexes
+pub mod InOrder
+pub mod Lawfulness

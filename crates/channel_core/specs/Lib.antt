@@ -1,0 +1,4 @@
+pub mod History
+pub mod Index
+pub mod Lawful
+pub mod Taking
