@@ -1,4 +1,6 @@
+pub mod Forms
 pub mod Loading
 pub mod Reading
+pub mod Running
 pub mod Splitting
 pub mod Writing

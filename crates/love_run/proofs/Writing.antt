@@ -1,11 +1,9 @@
 -- Outputs written piece by piece.
-use Rattle.std.proofs.Common.{◌≡◌, ℕ, zero, suc, ◌+◌, ◌-◌, ◌<◌, ◌≤◌, ◌++◌, List, [], ◌∷◌, length, take, drop, get_or, Option, Some, None, Result, Ok, Err, refl, sym, ◌∙◌, ap, arith}
-use Rattle.std.proofs.Math.Seq.{drop-cons, take-add}
+use Rattle.std.proofs.Common.{◌≡◌, ℕ, zero, suc, ◌+◌, ◌-◌, ◌<◌, ◌≤◌, ◌++◌, List, [], ◌∷◌, length, take, drop, Option, Some, None, Result, Ok, Err, refl, sym, ◌∙◌, ap, arith}
+use Rattle.std.proofs.Math.Seq.{take-add}
 use Rattle.std.proofs.lemmas.List.{append_assoc, length-drop, length-take}
 use Rattle.std.specs.Option.{option_map}
 use Rattle.std.specs.Result.{OnErr}
-use Rattle.love_run.specs.Program.{output, printed}
-use Rattle.love_run.specs.declared.statement.Statement.{Statement}
 
 -- what a sink that tells its bytes has taken after two writes
 pub taken_twice : (told : Option (List ℕ)) (first second : List ℕ) → option_map (λ before. before ++ second) (option_map (λ before. before ++ first) told) ≡ option_map (λ before. before ++ (first ++ second)) told
@@ -39,11 +37,6 @@ piece_written before mid after out piece written count so_far now is =
 pub cut_short : (before mid done piece rest whole : List ℕ) → (left : List ℕ) × (done ++ left ≡ mid ++ piece) → mid ++ (piece ++ rest) ≡ whole → (left : List ℕ) × (done ++ left ≡ whole)
 cut_short before mid done piece rest whole part is =
     (part.0 ++ rest, sym (append_assoc done part.0 rest) ∙ ap (λ front. front ++ rest) part.1 ∙ append_assoc mid piece rest ∙ is)
-
--- what a statement prints, and what is printed behind it
-pub printed_next : (statements : List Statement) (i : ℕ) (statement : Statement) (mid whole : List ℕ) → i < length statements → statement ≡ get_or statements i statement → mid ++ output (drop i statements) ≡ whole → mid ++ (printed statement ++ output (drop (suc i) statements)) ≡ whole
-printed_next statements i statement mid whole within is so_far =
-    ap (λ left. mid ++ output left) (ap (λ s. s ∷ drop (suc i) statements) is ∙ sym (drop-cons statements i statement within)) ∙ so_far
 
 -- a piece lies within what is left
 pub piece_within : (out : List ℕ) (written end count : ℕ) → written ≤ length out → count ≤ length (take (end - written) (drop written out)) → (written + count ≤ length out) × (count ≤ end - written)

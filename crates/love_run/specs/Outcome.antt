@@ -1,12 +1,18 @@
 -- How a run of the program ends.
-use Rattle.std.specs.Prelude.{◌≡◌, ℕ, List, ◌∷◌, [], Option, Some, None, codes, ◌⊎◌}
+use Rattle.std.specs.Prelude.{◌≡◌, ℕ, List, ◌∷◌, [], Option, Some, None, Result, Ok, Err, codes, ◌⊎◌, ⊤}
 use Rattle.love_base.specs.Folder.{File, content}
 use Rattle.love_base.specs.declared.folder.FolderErr.{FolderErr}
 use Rattle.love_base.specs.declared.folder.FolderErr.TheVariants as folder
+use Rattle.love_base.specs.declared.memory.Memory.{Memory}
+use Rattle.love_base.specs.declared.sink.SinkErr.{SinkErr}
+use Rattle.love_base.specs.declared.sink.SinkErr.TheVariants as sink
+use Rattle.love_base.specs.Prefix.{IsPrefix}
+use Rattle.channel_core.specs.declared.entry.Entry.{Entry}
 use Rattle.love_run.specs.Program.{HasForm, IsProgram}
+use Rattle.love_run.specs.Run.{history, output}
 use Rattle.love_run.specs.declared.statement.Statement.{Statement}
 use Rattle.love_run.specs.declared.load.LoadFault.{LoadFault}
-use Rattle.love_run.specs.declared.load.LoadFault.TheVariants.{NoMain, Folder, OutOfForm, Memory}
+use Rattle.love_run.specs.declared.load.LoadFault.TheVariants as load
 
 -- the path of the file that runs
 abbrev pub main_lua : List ℕ
@@ -24,17 +30,37 @@ HasOtherForm files = (source : List ℕ) × (content files main_lua ≡ Some sou
 abbrev pub HasNoMain : List File → Type 0
 HasNoMain files = content files main_lua ≡ None
 
+-- the program ran to its end: it printed its output, and its Channel has its history
+abbrev pub RanWhole : List Statement → List ℕ → List (List Entry) → Type 0
+RanWhole program out channels = (out ≡ output program) × (channels ≡ history program ∷ [])
+
+-- the program ran from its start and was cut short
+abbrev pub RanInPart : List Statement → List ℕ → List (List Entry) → Type 0
+RanInPart program out channels =
+    IsPrefix out (output program) × ((done : List Entry) × (channels ≡ done ∷ []) × IsPrefix done (history program))
+
+-- the program didn't begin to run
+abbrev pub RanNothing : List ℕ → List (List Entry) → Type 0
+RanNothing out channels = (out ≡ []) × (channels ≡ [])
+
 -- how a fault of the folder is told
 abbrev pub load_fault_of : FolderErr → LoadFault
-load_fault_of folder.Failed = Folder
-load_fault_of folder.Memory = Memory
+load_fault_of folder.Failed = load.Folder
+load_fault_of folder.Memory = load.Memory
 
 -- the status of a game that isn't loaded
 abbrev pub status_of : LoadFault → ℕ
-status_of NoMain = 65
-status_of Folder = 66
-status_of OutOfForm = 69
-status_of Memory = 70
+status_of load.NoMain = 65
+status_of load.Folder = 66
+status_of load.OutOfForm = 69
+status_of load.Memory = 70
+
+-- the status of a run, where memory ran out or not, and of its writing
+abbrev pub end_status : Result ⊤ Memory → Result ⊤ SinkErr → ℕ
+end_status (Err memory) written = 70
+end_status (Ok done) (Ok all) = 0
+end_status (Ok done) (Err sink.Failed) = 67
+end_status (Ok done) (Err sink.Memory) = 70
 
 -- the status says that nothing ran: the words, the folder or `main.lua` were refused
 abbrev pub SaysNothingRan : ℕ → Type 0

@@ -1,13 +1,11 @@
--- What a `main.lua` of literals says, and what it prints.
+-- What a `main.lua` of literals and one Channel says.
 use Rattle.std.specs.Prelude.{◌≡◌, ◌≢◌, ℕ, ◌<◌, ◌≤◌, List, [], ◌∷◌, ◌++◌, if◌then◌else◌, ◌==◌, codes, length, pos, All, Option, Some, None, ⊤}
 use Rattle.std.specs.Borrow.{Bor}
-use Rattle.std.specs.List.{flat_map}
 use Rattle.std.specs.Str.Parse.{AllDigits, digits_value}
-use Rattle.std.specs.Fmt.{signed_decimal}
 use Rattle.love_run.specs.declared.statement.Statement.{Statement}
-use Rattle.love_run.specs.declared.statement.Statement.TheVariants.{Blank, Print}
-use Rattle.love_run.specs.declared.statement.Literal.{Literal}
-use Rattle.love_run.specs.declared.statement.Literal.TheVariants.{Number, String}
+use Rattle.love_run.specs.declared.statement.Statement.TheVariants.{Blank, Print, Push, PrintPop}
+use Rattle.variant.specs.declared.message.Variant.{Variant}
+use Rattle.variant.specs.declared.message.Variant.TheVariants.{Nil, Bool, Num, Bytes}
 
 -- the byte that ends a line
 abbrev pub newline : ℕ
@@ -36,15 +34,24 @@ lines_behind (Some rest) = lines rest.now
 abbrev pub IsPlain : ℕ → Type 0
 IsPlain byte = (32 ≤ byte) × (byte ≤ 126) × (byte ≢ quote) × (byte ≢ 92)
 
--- the text is one to fourteen decimal digits that write the number, or the string between quotes
-abbrev pub SpellsLiteral : Literal → List ℕ → Type 0
-SpellsLiteral (Number n) text = (0 < length text) × (length text ≤ 14) × AllDigits 10 text × (n ≡ pos (digits_value 10 text))
-SpellsLiteral (String bytes) text = All IsPlain bytes × (text ≡ quote ∷ (bytes ++ quote ∷ []))
+-- The text spells the message as a literal: one to fourteen decimal digits that write a number, or a string
+-- between quotes. No literal spells `nil`, `true` or `false`.
+abbrev pub SpellsLiteral : Variant → List ℕ → Type 0
+SpellsLiteral Nil text = ⊥
+SpellsLiteral (Bool truth) text = ⊥
+SpellsLiteral (Num n) text = (0 < length text) × (length text ≤ 14) × AllDigits 10 text × (n ≡ pos (digits_value 10 text))
+SpellsLiteral (Bytes bytes) text = All IsPlain bytes × (text ≡ quote ∷ (bytes ++ quote ∷ []))
 
--- the line is empty, or `print(` and a literal and `)`
+-- the line is a literal between these two texts
+abbrev pub SpellsBetween : List ℕ → List ℕ → Variant → List ℕ → Type 0
+SpellsBetween front end literal line = (text : List ℕ) × SpellsLiteral literal text × (line ≡ front ++ (text ++ end))
+
+-- The line is empty; or `print(L)`; or pushes L to the Channel, or prints what it pops from there.
 abbrev pub Spells : Statement → List ℕ → Type 0
 Spells Blank line = line ≡ []
-Spells (Print literal) line = (text : List ℕ) × SpellsLiteral literal text × (line ≡ codes "print(" ++ (text ++ codes ")"))
+Spells (Print literal) line = SpellsBetween (codes "print(") (codes ")") literal line
+Spells (Push literal) line = SpellsBetween (codes "love.thread.getChannel(\"x\"):push(") (codes ")") literal line
+Spells PrintPop line = line ≡ codes "print(love.thread.getChannel(\"x\"):pop())"
 
 -- each of these lines spells the statement at its place
 abbrev pub SpellsEach : List Statement → List (List ℕ) → Type 0
@@ -64,17 +71,3 @@ IsProgram source statements = (length source ≤ longest_source) × SpellsEach s
 -- the source has the form that is read: it isn't too long, and each of its lines spells a statement
 abbrev pub HasForm : List ℕ → Type 0
 HasForm source = (statements : List Statement) × IsProgram source statements
-
--- how a literal is printed: a number by its decimal digits, a string by its bytes
-abbrev pub shown : Literal → List ℕ
-shown (Number n) = signed_decimal n
-shown (String bytes) = bytes
-
--- what a statement prints: the literal and a newline
-abbrev pub printed : Statement → List ℕ
-printed Blank = []
-printed (Print literal) = shown literal ++ newline ∷ []
-
--- what the statements print, one after another
-abbrev pub output : List Statement → List ℕ
-output statements = flat_map printed statements

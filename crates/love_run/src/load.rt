@@ -1,5 +1,6 @@
-ghost use Rattle.std.specs.Prelude.{◌≡◌, ◌+◌, ◌≤◌, ℕ, List, IfOk, IfSome, IsErrOf};
+ghost use Rattle.std.specs.Prelude.{◌≡◌, ◌+◌, ◌<◌, ◌≤◌, length, IfOk, IfSome, IsErrOf};
 ghost use Rattle.love_base.specs.Fault.{HasRisen};
+ghost use Rattle.channel_core.specs.Lawful.{entry_limit};
 ghost use Rattle.love_run.specs.Outcome.{HasNoMain, HasOtherForm, HasProgram, status_of};
 
 use crate::reader::{ReadFault, read_program};
@@ -66,6 +67,7 @@ pub fn load<F: Folder>(
     folder: &mut F,
 ) -> Result<Vec<Statement>, LoadFault>
     ensures program { IfOk result (λ statements. IfSome (F.files folder.old) (λ files. HasProgram files statements.items)) }
+    ensures few { IfOk result (λ statements. length statements.items < entry_limit) }
     ensures no_main { IsErrOf result LoadFault.NoMain → IfSome (F.files folder.old) HasNoMain }
     ensures out_of_form { IsErrOf result LoadFault.OutOfForm → IfSome (F.files folder.old) HasOtherForm }
     ensures failed { IsErrOf result LoadFault.Folder → HasRisen (F.faults folder.old) (F.faults folder.new) }

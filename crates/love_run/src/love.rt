@@ -1,10 +1,10 @@
-ghost use Rattle.std.specs.Prelude.{◌≡◌, ◌+◌, ◌++◌, ◌≤◌, ◌↔◌, ◌⊎◌, ℕ, List, [], IfSome};
+ghost use Rattle.std.specs.Prelude.{◌≡◌, ◌+◌, ◌++◌, ◌<◌, ◌≤◌, ◌↔◌, ◌⊎◌, ℕ, List, length, IfSome};
 ghost use Rattle.std.specs.Option.{option_map};
 ghost use Rattle.love_base.specs.Fault.{HasRisen};
 ghost use Rattle.love_base.specs.Prefix.{IsPrefix};
 ghost use Rattle.love_run.specs.Command.{IsCommand};
-ghost use Rattle.love_run.specs.Outcome.{HasNoMain, HasOtherForm, HasProgram, SaysNothingRan, SaysRanWhole};
-ghost use Rattle.love_run.specs.Program.{output};
+ghost use Rattle.love_run.specs.Outcome.{end_status, HasNoMain, HasOtherForm, HasProgram, RanInPart, RanNothing, RanWhole, SaysNothingRan, SaysRanWhole};
+ghost use Rattle.channel_core.specs.Lawful.{entry_limit};
 ghost use Rattle.love_run.specs.declared.statement.Statement.{Statement};
 
 use crate::command::folder_of;
@@ -14,7 +14,8 @@ use crate::run::run;
 use crate::statement::Statement;
 use crate::status::{DONE, NO_MAIN, OUT_OF_FORM, OUT_OF_MEMORY, UNREADABLE, UNWRITTEN, USAGE};
 use crate::writer::write_all;
-use love_base::{Folder, Sink, SinkErr, Text};
+use channel_core::Channel;
+use love_base::{Folder, List, Memory, Sink, SinkErr, Text};
 use std::alloc::Global;
 
 /// Reads a game, runs it and writes what it prints: all that the program does.
@@ -33,10 +34,10 @@ pub fn love<F: Folder, S: Sink>(
     ensures output_fault { result.status ≡ UNWRITTEN → HasRisen (S.faults sink.old) (S.faults sink.new) }
     ensures out_of_form { result.status ≡ OUT_OF_FORM → IfSome (F.files folder.old) HasOtherForm }
 
-    // What was printed.
-    ensures ran_whole { SaysRanWhole result.status → IfSome (F.files folder.old) (λ files. (program : List Statement) × HasProgram files program × (result.out ≡ output program)) }
-    ensures ran_in_part { result.status ≡ OUT_OF_MEMORY → IfSome (F.files folder.old) (λ files. (result.out ≡ []) ⊎ ((program : List Statement) × HasProgram files program × IsPrefix result.out (output program))) }
-    ensures ran_nothing { SaysNothingRan result.status → result.out ≡ [] }
+    // What was printed, and what became of the Channel.
+    ensures ran_whole { SaysRanWhole result.status → IfSome (F.files folder.old) (λ files. (program : List Statement) × HasProgram files program × RanWhole program result.out result.channels) }
+    ensures ran_in_part { result.status ≡ OUT_OF_MEMORY → IfSome (F.files folder.old) (λ files. RanNothing result.out result.channels ⊎ ((program : List Statement) × HasProgram files program × RanInPart program result.out result.channels)) }
+    ensures ran_nothing { SaysNothingRan result.status → RanNothing result.out result.channels }
 
     // What was written.
     ensures written { result.status ≡ DONE → S.taken sink.new ≡ option_map (λ before. before ++ result.out) (S.taken sink.old) }
@@ -62,21 +63,35 @@ pub fn love<F: Folder, S: Sink>(
 
 // Runs a program and writes what it printed, also where it was cut short.
 fn play<S: Sink>(alloc: Global, program: &[Statement], sink: &mut S) -> Report
+    requires { length program.now < entry_limit }
     ensures status { (result.status ≡ DONE) ⊎ (result.status ≡ UNWRITTEN) ⊎ (result.status ≡ OUT_OF_MEMORY) }
     ensures failed { result.status ≡ UNWRITTEN → HasRisen (S.faults sink.old) (S.faults sink.new) }
-    ensures whole { SaysRanWhole result.status → result.out ≡ output program.now }
-    ensures part { IsPrefix result.out (output program.now) }
+    ensures ran_whole { SaysRanWhole result.status → RanWhole program.now result.out result.channels }
+    ensures ran_in_part { result.status ≡ OUT_OF_MEMORY → RanNothing result.out result.channels ⊎ RanInPart program.now result.out result.channels }
     ensures written { result.status ≡ DONE → S.taken sink.new ≡ option_map (λ before. before ++ result.out) (S.taken sink.old) }
     ensures written_in_part { (sent : List ℕ) × IsPrefix sent result.out × (S.taken sink.new ≡ option_map (λ before. before ++ sent) (S.taken sink.old)) }
 {
+    let Ok(mut channels) = Vec::with_capacity(alloc, 1) else {
+        return Report::unbegun(alloc, OUT_OF_MEMORY);
+    };
+    let mut channel = Channel::new(alloc);
     let mut out = Vec::new(alloc);
-    let ran = run(program, &mut out);
+    let ran = run(alloc, program, &mut channel, &mut out);
     let written = write_all(sink, out.as_slice());
-    let status = match (ran, written) {
+    channels.push(channel).unwrap();
+    Report {
+        status: status_of(ran, written),
+        out: Text::from_vec(out),
+        channels: List::from_vec(channels),
+    }
+}
+
+fn status_of(ran: Result<(), Memory>, written: Result<(), SinkErr>) -> u8
+    ensures { result ≡ end_status ran written }
+{
+    match (ran, written) {
         (Err(_), _) | (Ok(()), Err(SinkErr::Memory)) => OUT_OF_MEMORY,
         (Ok(()), Err(SinkErr::Failed)) => UNWRITTEN,
         (Ok(()), Ok(())) => DONE,
-    };
-    let out = Text::from_vec(out);
-    Report { status, out }
+    }
 }

@@ -1,20 +1,31 @@
 //! Reads a `main.lua` of literals, line by line. It goes once the language is read whole.
 ghost use Rattle.std.specs.Prelude.{◌≡◌, ◌<◌, ◌↔◌, ◌≢◌, ◌∷◌, ◌++◌, ℕ, ℤ, List, length, slice_index, All, IfOk, IfSome, IfNone, IsErrOf, IsTrue};
 ghost use Rattle.std.specs.Str.Parse.{AllDigits};
+ghost use Rattle.channel_core.specs.Lawful.{entry_limit};
 ghost use Rattle.love_run.specs.Program.{HasForm, IsPlain, IsProgram, lines, lines_behind, newline, Spells, SpellsEach, SpellsLiteral};
-ghost use Rattle.love_run.specs.declared.statement.Literal.{Literal};
+ghost use Rattle.variant.specs.declared.message.Variant.{Variant};
 ghost use Rattle.love_run.specs.declared.statement.Statement.{Statement};
 
-use crate::statement::{Literal, Statement};
+use crate::statement::Statement;
 use love_base::{Memory, Text};
 use lua_value::Num;
-use std::alloc::{AllocError, AllocFailed, Global};
+use std::alloc::{AllocFailed, Global};
+use variant::Variant;
 
 // The longest source that is read, in bytes.
 const LONGEST_SOURCE: usize = 1_048_576;
 
 // The most digits of a number.
 const MOST_DIGITS: usize = 14;
+
+// The parts of the lines, literals apart.
+const PRINT: &[u8] = b"print(";
+
+const PUSH: &[u8] = b"love.thread.getChannel(\"x\"):push(";
+
+const PRINT_POP: &[u8] = b"print(love.thread.getChannel(\"x\"):pop())";
+
+const CLOSE: &[u8] = b")";
 
 /// Why a source isn't read.
 #[derive(Clone, Copy, Debug, PartialEq, Eq)]
@@ -47,6 +58,7 @@ impl<T: Drop> From<AllocFailed<T>> for ReadFault {
 // The statements of a source, one a line.
 pub fn read_program(alloc: Global, source: &[u8]) -> Result<Vec<Statement>, ReadFault>
     ensures program { IfOk result (λ statements. IsProgram source.now statements.items) }
+    ensures few { IfOk result (λ statements. length statements.items < entry_limit) }
     ensures out_of_form { IsErrOf result ReadFault.OutOfForm → ¬ HasForm source.now }
 {
     if source.len() > LONGEST_SOURCE {
@@ -96,34 +108,40 @@ fn read_line(alloc: Global, line: &[u8]) -> Result<Statement, ReadFault>
     if line.is_empty() {
         return Ok(Statement::Blank);
     }
-    match between(line, b"print(", b")") {
-        Some(text) => Ok(Statement::Print(read_literal(alloc, text)?)),
+    if line == PRINT_POP {
+        return Ok(Statement::PrintPop);
+    }
+    if let Some(text) = between(line, PRINT, CLOSE) {
+        return Ok(Statement::Print(read_literal(alloc, text)?));
+    }
+    match between(line, PUSH, CLOSE) {
+        Some(text) => Ok(Statement::Push(read_literal(alloc, text)?)),
         None => Err(ReadFault::OutOfForm),
     }
 }
 
-fn read_literal(alloc: Global, text: &[u8]) -> Result<Literal, ReadFault>
+fn read_literal(alloc: Global, text: &[u8]) -> Result<Variant, ReadFault>
     ensures spelled { IfOk result (λ literal. SpellsLiteral literal text.now) }
-    ensures out_of_form { IsErrOf result ReadFault.OutOfForm → (literal : Literal) → ¬ SpellsLiteral literal text.now }
+    ensures out_of_form { IsErrOf result ReadFault.OutOfForm → (literal : Variant) → ¬ SpellsLiteral literal text.now }
 {
     if let Some(bytes) = between(text, b"\"", b"\"") {
         return read_string(alloc, bytes);
     }
     match read_number(text) {
-        Some(number) => Ok(Literal::Number(number)),
+        Some(number) => Ok(Variant::Num(number)),
         None => Err(ReadFault::OutOfForm),
     }
 }
 
-fn read_string(alloc: Global, bytes: &[u8]) -> Result<Literal, ReadFault>
-    ensures string { IfOk result (λ literal. literal ≡ Literal.String bytes.now) }
+fn read_string(alloc: Global, bytes: &[u8]) -> Result<Variant, ReadFault>
+    ensures string { IfOk result (λ literal. literal ≡ Variant.Bytes bytes.now) }
     ensures plain { IfOk result (λ _. All IsPlain bytes.now) }
     ensures out_of_form { IsErrOf result ReadFault.OutOfForm → ¬ All IsPlain bytes.now }
 {
     if !bytes.iter().all(|byte| is_plain(*byte)) {
         return Err(ReadFault::OutOfForm);
     }
-    Ok(Literal::String(Text::of(alloc, bytes)?))
+    Ok(Variant::Bytes(Text::of(alloc, bytes)?))
 }
 
 fn is_plain(byte: u8) -> bool
@@ -134,8 +152,8 @@ fn is_plain(byte: u8) -> bool
 
 // The number that one to fourteen decimal digits write.
 fn read_number(text: &[u8]) -> Option<Num>
-    ensures spelled { IfSome result (λ n. SpellsLiteral (Literal.Number n) text.now) }
-    ensures none { IfNone result ((n : ℤ) → ¬ SpellsLiteral (Literal.Number n) text.now) }
+    ensures spelled { IfSome result (λ n. SpellsLiteral (Variant.Num n) text.now) }
+    ensures none { IfNone result ((n : ℤ) → ¬ SpellsLiteral (Variant.Num n) text.now) }
 {
     if text.is_empty() || text.len() > MOST_DIGITS || !all_digits(text) {
         return None;

@@ -1,15 +1,18 @@
 ghost use Rattle.std.specs.Prelude.{◌≡◌, []};
 
-use love_base::Text;
+use channel_core::Channel;
+use love_base::{List, Text};
 use std::alloc::Global;
 
-/// How a run ended, and what it printed.
+/// How a run ended, what it printed, and what became of its Channel.
 #[derive(Debug, Drop)]
 pub struct Report {
     /// The exit status of the program: 0, or one of [`crate::status`].
     pub status: u8,
     /// What the game printed, from its start. Empty where nothing ran.
     pub out: Text,
+    /// The game's one Channel, with its history; empty where nothing ran.
+    pub channels: List<Channel>,
 }
 
 impl Report {
@@ -17,10 +20,12 @@ impl Report {
     pub fn unbegun(alloc: Global, status: u8) -> Report
         ensures status { result.status ≡ status }
         ensures out { result.out ≡ [] }
+        ensures channels { result.channels ≡ [] }
     {
         Report {
             status,
             out: Text::from_vec(Vec::new(alloc)),
+            channels: List::new(alloc),
         }
     }
 }

@@ -1,18 +1,14 @@
-use love_base::Text;
-use lua_value::Num;
+use variant::Variant;
 
-/// A literal of `main.lua`.
-#[derive(Debug, Drop)]
-pub enum Literal {
-    Number(Num),
-    String(Text),
-}
-
-/// What one line of `main.lua` says.
+/// What one line of `main.lua` says. A literal is kept as the message that it would be.
 #[derive(Debug, Drop)]
 pub enum Statement {
     /// An empty line.
     Blank,
     /// `print(L)`.
-    Print(Literal),
+    Print(Variant),
+    /// `love.thread.getChannel("x"):push(L)`.
+    Push(Variant),
+    /// `print(love.thread.getChannel("x"):pop())`.
+    PrintPop,
 }

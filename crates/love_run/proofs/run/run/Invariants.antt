@@ -1,8 +1,7 @@
-use Rattle.std.proofs.Common.{◌≡◌, ◌++◌, drop}
-use Rattle.love_run.specs.Program.{output}
+use Rattle.love_run.specs.Run.{history, output}
+use Rattle.love_run.proofs.Running.{HasRun}
 use Rattle.love_run.proofs.run.run.Given as goal
 
--- what was printed and what is still to be printed are the whole output
-abbrev pub invariant-loop-statement : goal.invariant-loop-statement
-invariant-loop-statement l =
-    l.out.items ++ output (drop l.statement-index l.statements) ≡ l.fn.out.items ++ output l.statements
+-- the program has run up to this line
+abbrev pub invariant-loop-index : goal.invariant-loop-index
+invariant-loop-index l = HasRun l.statements l.index l.out.items l.channel (output l.statements) (history l.statements)
