@@ -1,5 +1,6 @@
 pub mod Forms
 pub mod Loading
+pub mod Order
 pub mod Reading
 pub mod Running
 pub mod Splitting

@@ -69,3 +69,7 @@ SaysNothingRan status = (status ≡ 64) ⊎ (status ≡ 65) ⊎ (status ≡ 66) 
 -- the status says that the game ran to its end, whether or not its output was written
 abbrev pub SaysRanWhole : ℕ → Type 0
 SaysRanWhole status = (status ≡ 0) ⊎ (status ≡ 67)
+
+-- the statuses of the program
+abbrev pub IsStatus : ℕ → Type 0
+IsStatus status = SaysNothingRan status ⊎ SaysRanWhole status ⊎ (status ≡ 70)

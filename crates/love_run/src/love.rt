@@ -2,8 +2,10 @@ ghost use Rattle.std.specs.Prelude.{◌≡◌, ◌+◌, ◌++◌, ◌<◌, ◌�
 ghost use Rattle.std.specs.Option.{option_map};
 ghost use Rattle.love_base.specs.Fault.{HasRisen};
 ghost use Rattle.love_base.specs.Prefix.{IsPrefix};
+ghost use Rattle.channel_core.specs.History.{front};
+ghost use Rattle.love_run.specs.Run.{history, popped, pushed};
 ghost use Rattle.love_run.specs.Command.{IsCommand};
-ghost use Rattle.love_run.specs.Outcome.{end_status, HasNoMain, HasOtherForm, HasProgram, RanInPart, RanNothing, RanWhole, SaysNothingRan, SaysRanWhole};
+ghost use Rattle.love_run.specs.Outcome.{end_status, HasNoMain, HasOtherForm, HasProgram, IsStatus, RanInPart, RanNothing, RanWhole, SaysNothingRan, SaysRanWhole};
 ghost use Rattle.channel_core.specs.Lawful.{entry_limit};
 ghost use Rattle.love_run.specs.declared.statement.Statement.{Statement};
 
@@ -21,6 +23,7 @@ use std::alloc::Global;
 /// Reads a game, runs it and writes what it prints: all that the program does.
 ///
 /// `words` are those after the program's name. The report's status is 0 or one of [`crate::status`].
+#[tactic(auto, using(crate::proofs::Order::popped_first, crate::proofs::Order::drained))]
 pub fn love<F: Folder, S: Sink>(
     alloc: Global,
     words: &[Text],
@@ -28,6 +31,7 @@ pub fn love<F: Folder, S: Sink>(
     sink: &mut S,
 ) -> Report
     // What each status says.
+    ensures status { IsStatus result.status }
     ensures usage { (result.status ≡ USAGE) ↔ ¬ IsCommand words.now }
     ensures no_main { result.status ≡ NO_MAIN → IfSome (F.files folder.old) HasNoMain }
     ensures folder_fault { result.status ≡ UNREADABLE → HasRisen (F.faults folder.old) (F.faults folder.new) }
@@ -47,6 +51,11 @@ pub fn love<F: Folder, S: Sink>(
     // Where no fault happens and the game has the form that is read, it runs and all is written.
     ensures complete { IsCommand words.now → ¬ HasRisen (F.faults folder.old) (F.faults folder.new) → ¬ HasRisen (S.faults sink.old) (S.faults sink.new)
         → IfSome (F.files folder.old) (λ files. (program : List Statement) → HasProgram files program → (result.status ≡ DONE) ⊎ (result.status ≡ OUT_OF_MEMORY)) }
+
+    // Of any program: it pops the first messages that it pushed, in that order; and a pop gives `nil`
+    // exactly where all that were pushed before it were popped.
+    ensures first_in_first_out { (program : List Statement) → IsPrefix (popped program) (pushed program) }
+    ensures nil_where_drained { (before : List Statement) → (front (history before) ≡ None) ↔ (popped before ≡ pushed before) }
 
     // What stays as it was.
     ensures kept { F.files folder.new ≡ F.files folder.old }

@@ -11,6 +11,8 @@ mod report;
 mod run;
 mod statement;
 mod status;
+#[cfg(test)]
+mod tests;
 mod words;
 mod writer;
 
