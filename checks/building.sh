@@ -1,0 +1,79 @@
+# shellcheck shell=bash disable=SC2154
+# How bin/love_run builds, tried in a repository that is made up, by a toolchain that only counts its calls.
+# Read by checks/run.
+
+# A repository whose crates are empty, and a command rt that writes down its calls.
+make_mock() {
+    mkdir -p mock/bin mock/tools mock/crates/{low,love_run,other}/src mock/crates/love_run/{specs,proofs,data/game}
+    cp "$top/bin/love_run" mock/bin/
+    printf '# a comment: of this\nlow:\nother: low\nlove_run: low itoa # and more\n' >mock/crates.txt
+    touch mock/crates/{low,other}/src/lib.rt mock/crates/love_run/{src/main.rt,specs/Lib.antt,proofs/Lib.antt}
+    cat >mock/tools/rt <<'RT'
+#!/bin/sh
+# Stands in for the toolchain: `rt run` in the crate makes a program that tells its words.
+echo "$PWD: $*" >>../../calls
+echo 'what rt has to say'
+! test -e ../../broken || exit 1
+sleep 0.2
+printf '#!/bin/sh\necho "$#: $*"\nexit 7\n' >out/love_run
+chmod +x out/love_run
+RT
+    chmod +x mock/tools/rt
+}
+
+# Runs the script of that repository, which is to have built so often by now and to end with this status.
+mock() { # NAME BUILDS STATUS OUTPUT ERROR-PATTERN
+    local builds
+    run env "PATH=$room/mock/tools:/usr/bin:/bin" "$room/mock/bin/love_run" a 'b c' --
+    builds=$(wc -l <mock/calls)
+    # shellcheck disable=SC2053 # the last is a pattern
+    if [[ $ended == "$3" && $builds == "$2" && $(cat "$room/out") == "$4" && $(cat "$room/err") == $5 ]]; then
+        note ok "bin/love_run, $1"
+    else
+        note FAILED "bin/love_run, $1" "status $ended, $builds builds, $(cat "$room/out" "$room/err")"
+    fi
+}
+
+check_building() {
+    local built='bin/love_run: proving and building the program: *' told='3: a b c --' broke
+    local log=$room/mock/crates/love_run/out/build.log source
+    make_mock
+    : >mock/calls
+    broke="*"$'\n'"bin/love_run: the program wasn't built: $log says why"
+    mock 'which builds where there is no program' 1 7 "$told" "$built"
+    mock 'which builds only once' 1 7 "$told" ''
+    touch mock/crates/other/src/lib.rt
+    mock 'where a crate changed that it has no part of' 1 7 "$told" ''
+    local builds=1
+    for source in low/src/lib.rt love_run/src/main.rt love_run/specs/Lib.antt love_run/proofs/Lib.antt ../crates.txt; do
+        sleep 0.02
+        touch "mock/crates/$source"
+        builds=$((builds + 1))
+        mock "which builds after a change of $source" "$builds" 7 "$told" "$built"
+    done
+    sleep 0.02
+    rm mock/crates/love_run/specs/Lib.antt
+    mock 'which builds where a source was removed' 7 7 "$told" "$built"
+    sleep 0.02
+    touch mock/crates/low/src/lib.rt mock/broken
+    mock 'where the build fails' 8 125 '' "$broke"
+    mock 'where it fails again' 9 125 '' "$broke"
+    rm mock/broken mock/crates/love_run/out/love_run
+    at_once
+    rm mock/crates/love_run/out/love_run mock/tools/rt
+    mock 'where there is no toolchain' 10 125 '' "*rt, the toolchain's command, isn't on PATH"
+}
+
+# Two calls that find no program: one of them builds, and both become it.
+at_once() {
+    local first=0 second=0 job
+    env "PATH=$room/mock/tools:/usr/bin:/bin" mock/bin/love_run first >first.out 2>/dev/null </dev/null &
+    job=$!
+    env "PATH=$room/mock/tools:/usr/bin:/bin" mock/bin/love_run second >second.out 2>/dev/null </dev/null || second=$?
+    wait "$job" || first=$?
+    if [[ "$first $second $(wc -l <mock/calls) $(cat first.out second.out)" == "7 7 10 1: first"$'\n'"1: second" ]]; then
+        note ok 'bin/love_run, twice at once'
+    else
+        note FAILED 'bin/love_run, twice at once' "statuses $first and $second, $(wc -l <mock/calls) builds"
+    fi
+}

@@ -1,0 +1,4 @@
+
+print("the last line")
+
+print("has no newline")
