@@ -7,9 +7,11 @@
 mod arithmetic;
 mod decimal;
 mod digits;
+mod division;
 mod hexadecimal;
 mod num;
 mod numeral;
+mod power;
 #[cfg(test)]
 mod tests;
 

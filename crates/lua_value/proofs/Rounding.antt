@@ -1,0 +1,50 @@
+-- Division rounded down, from division rounded toward zero.
+use Rattle.std.proofs.Common.{◌≡◌, ◌≢◌, ℕ, zero, suc, ◌+◌, ◌*◌, ◌-◌, ◌/◌, ◌%◌, ◌≤◌, ◌<◌, ◌⊎◌, inl, inr, ℤ, ◌<ℤ◌, ◌≤ℤ◌, pos, negsuc, neg_ℤ, ◌+ℤ◌, ◌-ℤ◌, ◌*ℤ◌, Bool, true, false, unsigned_abs, arith, ap, refl, sym, ◌∙◌, div-add-mod', mod-lt, zero-mul, div-mul-le_self}
+use Rattle.std.proofs.lemmas.Int.{ints}
+use Rattle.std.proofs.lemmas.Nat.{div-mul-add, mod-mul-add}
+use Rattle.std.proofs.lemmas.Bool.{cases_lt}
+use Rattle.std.proofs.Math.Nat.{zero-div, zero-mod}
+use Rattle.std.specs.Int.{int_div_euclid}
+use Rattle.lua_value.specs.Arithmetic.{floor_by, floor_quotient, floor_remainder, is_zero}
+
+-- what `div_euclid` gives
+pub int_div_euclid-pos : (z : ℤ) (d : ℕ) → int_div_euclid z (pos d) ≡ floor_by z d
+int_div_euclid-pos (pos a) d = refl
+int_div_euclid-pos (negsuc a) d = refl
+
+-- the remainder by the signs
+remainder-pos-pos : (a b : ℕ) → floor_remainder (pos a) (pos b) ≡ pos (a % b)
+remainder-pos-pos a b = omega (arith, ints, div-add-mod' a b)
+
+remainder-negsuc-pos : (a b : ℕ) → floor_remainder (negsuc a) (pos (suc b)) ≡ pos (b - a % suc b)
+remainder-negsuc-pos a b = omega (arith, ints, div-add-mod' a (suc b), mod-lt a {m = suc b} (omega arith))
+
+remainder-zero-negsuc : (b : ℕ) → floor_remainder (pos zero) (negsuc b) ≡ pos 0
+remainder-zero-negsuc b = rw (zero-div, zero-mul) refl
+
+remainder-suc-negsuc : (a b : ℕ) → floor_remainder (pos (suc a)) (negsuc b) ≡ neg_ℤ (pos (b - a % suc b))
+remainder-suc-negsuc a b = omega (arith, ints, div-add-mod' a (suc b), mod-lt a {m = suc b} (omega arith))
+
+remainder-negsuc-negsuc : (a b : ℕ) → floor_remainder (negsuc a) (negsuc b) ≡ neg_ℤ (pos (suc a % suc b))
+remainder-negsuc-negsuc a b = omega (arith, ints, div-add-mod' (suc a) (suc b))
+
+unsigned_abs-neg : (n : ℕ) → unsigned_abs (neg_ℤ (pos n)) ≡ n
+unsigned_abs-neg zero = refl
+unsigned_abs-neg (suc n) = refl
+
+-- the remainder is smaller than the divisor
+pub remainder_size : (a b : ℤ) → b ≢ pos 0 → unsigned_abs (floor_remainder a b) < unsigned_abs b
+remainder_size a (pos zero) h = absurd (h refl)
+remainder_size (pos a) (pos (suc b)) h = rw (remainder-pos-pos a (suc b)) (mod-lt a {m = suc b} (omega arith))
+remainder_size (negsuc a) (pos (suc b)) h = rw (remainder-negsuc-pos a b) (omega arith)
+remainder_size (pos zero) (negsuc b) h = rw (remainder-zero-negsuc b) (omega arith)
+remainder_size (pos (suc a)) (negsuc b) h = rw (remainder-suc-negsuc a b, unsigned_abs-neg) (omega arith)
+remainder_size (negsuc a) (negsuc b) h = rw (remainder-negsuc-negsuc a b, unsigned_abs-neg) (mod-lt (suc a) {m = suc b} (omega arith))
+
+-- and what is taken away no more than a divisor larger than the dividend
+pub product_size : (a b : ℤ) → unsigned_abs (floor_quotient a b *ℤ b) ≤ unsigned_abs a + unsigned_abs b
+product_size (pos a) (pos b) = omega (arith, div-mul-le_self a b)
+product_size (negsuc a) (pos b) = rw unsigned_abs-neg (omega (arith, div-mul-le_self a b))
+product_size (pos zero) (negsuc b) = rw unsigned_abs-neg (omega (arith, div-mul-le_self 0 (suc b)))
+product_size (pos (suc a)) (negsuc b) = omega (arith, div-mul-le_self a (suc b))
+product_size (negsuc a) (negsuc b) = rw unsigned_abs-neg (omega (arith, div-mul-le_self (suc a) (suc b)))
