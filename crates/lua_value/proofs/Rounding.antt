@@ -5,7 +5,7 @@ use Rattle.std.proofs.lemmas.Nat.{div-mul-add, mod-mul-add}
 use Rattle.std.proofs.lemmas.Bool.{cases_lt}
 use Rattle.std.proofs.Math.Nat.{zero-div, zero-mod}
 use Rattle.std.specs.Int.{int_div_euclid}
-use Rattle.lua_value.specs.Arithmetic.{floor_by, floor_quotient, floor_remainder, is_zero}
+use Rattle.lua_value.specs.Arithmetic.{floor_by, floor_quotient, floor_remainder, LiesBefore}
 
 -- what `div_euclid` gives
 pub int_div_euclid-pos : (z : ℤ) (d : ℕ) → int_div_euclid z (pos d) ≡ floor_by z d
@@ -28,7 +28,7 @@ remainder-suc-negsuc a b = omega (arith, ints, div-add-mod' a (suc b), mod-lt a 
 remainder-negsuc-negsuc : (a b : ℕ) → floor_remainder (negsuc a) (negsuc b) ≡ neg_ℤ (pos (suc a % suc b))
 remainder-negsuc-negsuc a b = omega (arith, ints, div-add-mod' (suc a) (suc b))
 
-unsigned_abs-neg : (n : ℕ) → unsigned_abs (neg_ℤ (pos n)) ≡ n
+pub unsigned_abs-neg : (n : ℕ) → unsigned_abs (neg_ℤ (pos n)) ≡ n
 unsigned_abs-neg zero = refl
 unsigned_abs-neg (suc n) = refl
 
@@ -48,3 +48,13 @@ product_size (negsuc a) (pos b) = rw unsigned_abs-neg (omega (arith, div-mul-le_
 product_size (pos zero) (negsuc b) = rw unsigned_abs-neg (omega (arith, div-mul-le_self 0 (suc b)))
 product_size (pos (suc a)) (negsuc b) = omega (arith, div-mul-le_self a (suc b))
 product_size (negsuc a) (negsuc b) = rw unsigned_abs-neg (omega (arith, div-mul-le_self (suc a) (suc b)))
+
+-- the remainder has the divisor's sign
+pub remainder_side : (a b : ℤ) → b ≢ pos 0 → LiesBefore (floor_remainder a b) b
+remainder_side a (pos zero) h = absurd (h refl)
+remainder_side (pos a) (pos (suc b)) h = rw (remainder-pos-pos a (suc b)) (inl (omega (arith, ints), omega (arith, ints, mod-lt a {m = suc b} (omega arith))))
+remainder_side (negsuc a) (pos (suc b)) h = rw (remainder-negsuc-pos a b) (inl (omega (arith, ints), omega (arith, ints)))
+remainder_side (pos zero) (negsuc b) h = rw (remainder-zero-negsuc b) (inr (omega (arith, ints), omega (arith, ints)))
+remainder_side (pos (suc a)) (negsuc b) h = rw (remainder-suc-negsuc a b) (inr (omega (arith, ints), omega (arith, ints)))
+remainder_side (negsuc a) (negsuc b) h =
+    rw (remainder-negsuc-negsuc a b) (inr (omega (arith, ints, mod-lt (suc a) {m = suc b} (omega arith)), omega (arith, ints)))

@@ -4,7 +4,7 @@ ghost use Rattle.std.specs.Prelude.{◌≡◌, neg_ℤ};
 
 use crate::Num;
 use crate::division::floor_division;
-use crate::power::power;
+use crate::powers::signed_power;
 use thiserror::Error;
 
 /// Why an operation has no number as its answer.
@@ -96,10 +96,7 @@ impl Num {
         if exponent < 0 {
             return Err(NumFault::NotWhole);
         }
-        let size = power(base.unsigned_abs(), exponent as u64);
-        let size = i64::try_from(size).map_err(|_| NumFault::OutOfRange)?;
-        let is_negative = base < 0 && exponent % 2 == 1;
-        Num::new(if is_negative { -size } else { size }).ok_or(NumFault::OutOfRange)
+        signed_power(base, exponent as u64).ok_or(NumFault::OutOfRange)
     }
 
     /// The negative.

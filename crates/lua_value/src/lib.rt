@@ -9,9 +9,11 @@ mod decimal;
 mod digits;
 mod division;
 mod hexadecimal;
+pub mod laws;
 mod num;
+mod number_text;
 mod numeral;
-mod power;
+mod powers;
 #[cfg(test)]
 mod tests;
 
