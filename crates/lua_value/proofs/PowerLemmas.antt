@@ -13,22 +13,22 @@ min-product : (v y m : ℕ) → min (min v m * y) m ≡ min (v * y) m
 min-product v y m = elim (cases_lt m v) [
     inr within ↦ rw (min-eq_left {n = v} {m = m} within) refl
   | inl above ↦ elim (eq-zero-or-pos y) [
-        inl none ↦ rw (none, mul-zero, mul-zero) refl
+        inl none ↦ rw (none, mul-zero (min v m), mul-zero v) refl
       | inr some ↦ rw (min-eq_right {n = m} {m = v} (omega arith))
             (omega (arith, le-mul_of_pos_right {m = y} m some, le-mul_of_pos_right {m = y} v some))
     ]
   ]
 
 min-power : (v f k m : ℕ) → 0 < m → min (v * min f m ^ k) m ≡ min (v * f ^ k) m
-min-power v f zero m h = rw (pow-zero, pow-zero) refl
+min-power v f zero m h = rw (pow-zero (min f m), pow-zero f) refl
 min-power v f (suc k) m h = elim (cases_lt m f) [
     inr within ↦ rw (min-eq_left {n = f} {m = m} within) refl
   | inl above ↦ elim (eq-zero-or-pos v) [
-        inl none ↦ rw (none, zero-mul, zero-mul) refl
+        inl none ↦ rw (none, zero-mul (min f m ^ suc k), zero-mul (f ^ suc k)) refl
       | inr some ↦
             let low : 1 * (1 * m) ≤ v * (m ^ k * m) = mul-le-mul some (mul-le-mul (one-le-pow k m h) (omega arith)) in
             let high : 1 * (1 * f) ≤ v * (f ^ k * f) = mul-le-mul some (mul-le-mul (one-le-pow k f (omega arith)) (omega arith)) in
-            rw (min-eq_right {n = m} {m = f} (omega arith), pow-suc, pow-suc) (omega (arith, low, high))
+            rw (min-eq_right {n = m} {m = f} (omega arith), pow-suc m k, pow-suc f k) (omega (arith, low, high))
     ]
   ]
 
