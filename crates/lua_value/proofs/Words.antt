@@ -1,7 +1,6 @@
 -- A text is read as at most one number.
-use Rattle.std.proofs.Common.{◌≡◌, ◌≢◌, ℕ, zero, suc, ◌≤◌, ◌<◌, ◌⊎◌, inl, inr, ◌↔◌, ℤ, pos, negsuc, neg_ℤ, unsigned_abs, Bool, true, false, not, Option, Some, None, MatchOption, List, [], ◌∷◌, ◌++◌, length, arith, ap, refl, sym, ◌∙◌, subst, length-append}
+use Rattle.std.proofs.Common.{◌≡◌, ◌≢◌, ℕ, zero, suc, ◌≤◌, ◌<◌, ◌⊎◌, inl, inr, ◌↔◌, ℤ, pos, negsuc, unsigned_abs, Bool, true, false, not, Option, Some, None, MatchOption, List, [], ◌∷◌, ◌++◌, length, arith, ap, refl, sym, ◌∙◌, subst, length-append}
 use Rattle.std.proofs.lemmas.Bool.{false≢true}
-use Rattle.std.proofs.lemmas.Bool.Decides.{nat_tests}
 use Rattle.std.proofs.lemmas.Grind.{common_steps}
 use Rattle.std.proofs.lemmas.List.Elements.{All-nil, All-cons, All-head, All-tail, All-append}
 use Rattle.std.specs.List.{AllPass}
@@ -10,7 +9,7 @@ use Rattle.std.specs.Str.Parse.{AllDigits}
 use Rattle.lua_value.specs.Num.{IsNum}
 use Rattle.lua_value.specs.Sign.{Sign, sign_text, signed}
 use Rattle.lua_value.specs.Sign.Sign.{unsigned, plus, minus}
-use Rattle.lua_value.specs.Numeral.{Numeral, Exponent, fraction_digits, fraction_text, exponent_text, numeral_text, IsOptionalExponent, IsWellFormed, IsNumeral, Denotes}
+use Rattle.lua_value.specs.Numeral.{Numeral, Exponent, fraction_digits, fraction_text, exponent_text, numeral_text, IsOptionalExponent, IsWellFormed, Denotes}
 use Rattle.lua_value.specs.Numeral.Numeral.{hexadecimal, decimal}
 use Rattle.lua_value.specs.NumberText.{is_blank, is_no_blank, DenotesSigned, ReadsAs}
 use Rattle.lua_value.specs.Place.{FailsAtFirst, HasNoSign, IsWordOf}
@@ -65,15 +64,15 @@ exponent_has_no_blank : (e : Option Exponent) → IsOptionalExponent e → AllPa
 exponent_has_no_blank None h = All-nil (λ c. is_no_blank c ≡ true)
 exponent_has_no_blank (Some e) h =
     All-cons (λ c. is_no_blank c ≡ true) e.letter (sign_text e.sign ++ e.digits) (letter_is_no_blank e.letter 101 69 refl refl h.0)
-        (All-append (λ c. is_no_blank c ≡ true) (sign_text e.sign) e.digits (sign_has_no_blank e.sign) (digits_have_no_blank 10 e.digits (omega arith) h.2))
+    (All-append (λ c. is_no_blank c ≡ true) (sign_text e.sign) e.digits (sign_has_no_blank e.sign) (digits_have_no_blank 10 e.digits (omega arith) h.2))
 
 numeral_has_no_blank : (t : Numeral) → IsWellFormed t → AllPass is_no_blank (numeral_text t)
 numeral_has_no_blank (hexadecimal letter digits) h =
     All-cons (λ c. is_no_blank c ≡ true) 48 (letter ∷ digits) refl
-        (All-cons (λ c. is_no_blank c ≡ true) letter digits (letter_is_no_blank letter 120 88 refl refl h.0) (digits_have_no_blank 16 digits (omega arith) h.2))
+    (All-cons (λ c. is_no_blank c ≡ true) letter digits (letter_is_no_blank letter 120 88 refl refl h.0) (digits_have_no_blank 16 digits (omega arith) h.2))
 numeral_has_no_blank (decimal whole f e) h =
     All-append (λ c. is_no_blank c ≡ true) whole (fraction_text f ++ exponent_text e) (digits_have_no_blank 10 whole (omega arith) h.0)
-        (All-append (λ c. is_no_blank c ≡ true) (fraction_text f) (exponent_text e) (fraction_has_no_blank f h.1) (exponent_has_no_blank e h.3))
+    (All-append (λ c. is_no_blank c ≡ true) (fraction_text f) (exponent_text e) (fraction_has_no_blank f h.1) (exponent_has_no_blank e h.3))
 
 -- the first byte of a numeral is a digit or a point
 begins : (t : Numeral) → IsWellFormed t → (c : ℕ) × (cs : List ℕ) × (numeral_text t ≡ c ∷ cs) × (c ≢ 43) × (c ≢ 45)
@@ -160,14 +159,15 @@ word_is_last text blanks rest word behind more last w p m e q n f k g (b, a, b_b
 pub word_of : (text : List ℕ) (n : ℤ) → ReadsAs text n → (w : List ℕ) × IsWordOf text w × DenotesSigned w n
 word_of text n (before, word, after, before_blank, after_blank, text_is, (s, numeral, z, word_is, (t, formed, spelled, value), n_is)) =
     let no_blank : AllPass is_no_blank word =
-        subst (λ l. AllPass is_no_blank l) (sym (word_is ∙ ap (λ x. sign_text s ++ x) (sym spelled)))
-            (All-append (λ c. is_no_blank c ≡ true) (sign_text s) (numeral_text t) (sign_has_no_blank s) (numeral_has_no_blank t formed)) in
+    subst (λ l. AllPass is_no_blank l) (sym (word_is ∙ ap (λ x. sign_text s ++ x) (sym spelled)))
+    (All-append (λ c. is_no_blank c ≡ true) (sign_text s) (numeral_text t) (sign_has_no_blank s) (numeral_has_no_blank t formed)) in
     let first = begins t formed in
     let some : 0 < length word =
-        omega (arith, ap length word_is, length-append (sign_text s) numeral, ap length (sym spelled ∙ first.2)) in
-    (word
-    , (before, after, before_blank, after_blank, no_blank, word_ends_blanks word after no_blank some, text_is)
-    , (s, numeral, z, word_is, (t, formed, spelled, value), n_is))
+    omega (arith, ap length word_is, length-append (sign_text s) numeral, ap length (sym spelled ∙ first.2)) in (
+      word,
+      (before, after, before_blank, after_blank, no_blank, word_ends_blanks word after no_blank some, text_is),
+      (s, numeral, z, word_is, (t, formed, spelled, value), n_is),
+    )
 
 pub ReadsAs-unique : (text : List ℕ) (m n : ℤ) → ReadsAs text m → ReadsAs text n → m ≡ n
 ReadsAs-unique text m n p q =

@@ -26,11 +26,9 @@ impl Num {
 
 /// The number that the word between the blanks stands for.
 fn number(text: &[u8]) -> Option<Num>
-    ensures {
-        MatchOption result
-            ((n : ℤ) → ReadsAs text.now n → ¬ IsNum n)
-            (λ n. ReadsAs text.now n × IsNum n)
-    }
+    ensures { MatchOption result
+        ((n : ℤ) → ReadsAs text.now n → ¬ IsNum n)
+        (λ n. ReadsAs text.now n × IsNum n) }
 {
     signed(word(text)?)
 }
@@ -47,11 +45,9 @@ fn word(text: &[u8]) -> Option<&[u8]>
 
 /// The number that an optional sign and a numeral stand for.
 fn signed(word: &[u8]) -> Option<Num>
-    ensures {
-        MatchOption result
-            ((n : ℤ) → DenotesSigned word.now n → ¬ IsNum n)
-            (λ n. DenotesSigned word.now n × IsNum n)
-    }
+    ensures { MatchOption result
+        ((n : ℤ) → DenotesSigned word.now n → ¬ IsNum n)
+        (λ n. DenotesSigned word.now n × IsNum n) }
 {
     let (is_negative, numeral) = split_sign(word);
     let size = Num::numeral(numeral).ok()?;
@@ -64,10 +60,8 @@ fn signed(word: &[u8]) -> Option<Num>
 
 /// Whether the word begins with a minus, and what stands behind its sign.
 fn split_sign(word: &[u8]) -> (bool, &[u8])
-    ensures {
-        (sign : Sign) × (word.now ≡ sign_text sign ++ result.1.now) × (sign ≡ unsigned → HasNoSign result.1.now)
-            × ((z : ℤ) → signed sign z ≡ (if result.0 then neg_ℤ z else z))
-    }
+    ensures { (sign : Sign) × (word.now ≡ sign_text sign ++ result.1.now) × (sign ≡ unsigned → HasNoSign result.1.now)
+        × ((z : ℤ) → signed sign z ≡ (if result.0 then neg_ℤ z else z)) }
 {
     match after_either(word, b'-', b'-') {
         Some(numeral) => (true, numeral),

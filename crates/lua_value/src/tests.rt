@@ -163,7 +163,10 @@ fn operations(rt: HostRuntime) -> Result<(), Fail> {
         assert_eq!(rt; answer, value, "{a:?} {operator} {b:?}");
     }
     for (number, negative) in [(5, -5), (-5, 5), (0, 0), (GREATEST, -GREATEST)] {
-        assert_eq!(rt; Num::new(number).ok_or("out of range")?.neg().get(), negative);
+        assert_eq!(rt;
+            Num::new(number).ok_or("out of range")?.neg().get(),
+            negative
+        );
     }
     Ok(())
 }

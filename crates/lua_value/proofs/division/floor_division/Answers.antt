@@ -1,4 +1,4 @@
-use Rattle.std.proofs.Common.{◌≡◌, ◌≢◌, ◌≤◌, ◌*ℤ◌, ◌-ℤ◌, ℤ, pos, ℕ, unsigned_abs, arith, w64, to_z, of_z, SFits, ◌∙◌, sym, refl, rules}
+use Rattle.std.proofs.Common.{◌≡◌, ◌≢◌, ◌≤◌, ◌*ℤ◌, ◌-ℤ◌, ℤ, pos, unsigned_abs, arith, w64, to_z, of_z, SFits, ◌∙◌, refl, rules}
 use Rattle.std.proofs.lemmas.Int.{to_z-of_z, fits_signed_from_abs}
 use Rattle.lua_value.specs.Num.{IsNum}
 use Rattle.lua_value.specs.Arithmetic.{floor_quotient, floor_remainder}
@@ -11,7 +11,6 @@ word z = to_z w64 (of_z w64 z)
 
 module _ (a b q : ℤ) (a_fits : SFits w64 a) (b_fits : SFits w64 b) (q_fits : SFits w64 q) (a_num : IsNum a) (b_num : IsNum b)
     (nonzero : b ≢ pos 0) (rounded : q ≡ floor_quotient (word a) (word b)) where
-
   quotient : q ≡ floor_quotient a b
   unfolding word
   quotient = rw (to_z-of_z w64 a a_fits, to_z-of_z w64 b b_fits) at rounded
@@ -20,7 +19,7 @@ module _ (a b q : ℤ) (a_fits : SFits w64 a) (b_fits : SFits w64 b) (q_fits : S
   unfolding word
   product-fits =
       rw (to_z-of_z w64 q q_fits, to_z-of_z w64 b b_fits, quotient)
-          (fits_signed_from_abs w64 (floor_quotient a b *ℤ b) (omega (arith, product_size a b)))
+      (fits_signed_from_abs w64 (floor_quotient a b *ℤ b) (omega (arith, product_size a b)))
 
   product : word (word q *ℤ word b) ≡ floor_quotient a b *ℤ b
   unfolding word
@@ -41,22 +40,22 @@ pub overflow_mul-result : goal.overflow_mul-result
 unfolding word
 overflow_mul-result c =
     product-fits c.args.dividend c.args.divisor _ c.ranges.dividend c.ranges.divisor (search rules)
-        c.requires.dividend c.requires.divisor c.requires.nonzero c.rounded_down-quotient.ensures
+    c.requires.dividend c.requires.divisor c.requires.nonzero c.rounded_down-quotient.ensures
 
 pub overflow_sub-result : goal.overflow_sub-result
 unfolding word
 overflow_sub-result c =
     rest-fits c.args.dividend c.args.divisor _ c.ranges.dividend c.ranges.divisor (search rules)
-        c.requires.dividend c.requires.divisor c.requires.nonzero c.rounded_down-quotient.ensures
+    c.requires.dividend c.requires.divisor c.requires.nonzero c.rounded_down-quotient.ensures
 
 pub returns-clause-rest : goal.returns-clause-rest
 unfolding word
 returns-clause-rest c =
     rest c.args.dividend c.args.divisor _ c.ranges.dividend c.ranges.divisor (search rules)
-        c.requires.dividend c.requires.divisor c.requires.nonzero c.rounded_down-quotient.ensures
+    c.requires.dividend c.requires.divisor c.requires.nonzero c.rounded_down-quotient.ensures
 
 pub returns-clause-rest_size : goal.returns-clause-rest_size
 unfolding word
 returns-clause-rest_size c =
     rest_size c.args.dividend c.args.divisor _ c.ranges.dividend c.ranges.divisor (search rules)
-        c.requires.dividend c.requires.divisor c.requires.nonzero c.rounded_down-quotient.ensures
+    c.requires.dividend c.requires.divisor c.requires.nonzero c.rounded_down-quotient.ensures

@@ -14,5 +14,5 @@ returns c =
     let divisor : to_z w64 (of_z w64 c.get-divisor.result) ≡ c.args.other = word_is _ _ (search rules) c.get-divisor.ensures.value in
     let nonzero : c.args.other ≢ pos 0 = λ e. c.if-divisor-eq0.false (ap (of_z w64) (c.get-divisor.ensures.value ∙ e)) in
     let rest : to_z w64 (of_z w64 c.floor_division-rest.result.1) ≡ floor_remainder c.args.self c.args.other =
-        word_is _ _ (search rules) (rw (dividend, divisor) at c.floor_division-rest.ensures.rest) in
+    word_is _ _ (search rules) (rw (dividend, divisor) at c.floor_division-rest.ensures.rest) in
     c.ok_or.ensures.value ∙ in_range-new c.new.result (to_z w64 (of_z w64 c.floor_division-rest.result.1)) c.new.ensures ∙ rem-nonzero c.args.self c.args.other _ nonzero rest
