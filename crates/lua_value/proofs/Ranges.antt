@@ -6,7 +6,7 @@ use Rattle.std.proofs.lemmas.Int.{ints}
 use Rattle.lua_value.specs.Num.{IsNum}
 use Rattle.lua_value.specs.Arithmetic.{in_range, is_zero, floor_quotient, floor_remainder, add, mul, div, rem, LiesBefore}
 use Rattle.lua_value.specs.declared.arithmetic.NumFault.TheVariants.{NotWhole, OutOfRange}
-use Rattle.lua_value.proofs.Rounding.{remainder_side}
+use Rattle.lua_value.proofs.Rounding.{remainder_side, floor_quotient-product}
 
 pub in_range-num : (z : ℤ) → IsNum z → in_range z ≡ Ok z
 in_range-num z h = grind (arith, nat_tests)
@@ -74,3 +74,14 @@ mul-comm a b = let same : a *ℤ b ≡ b *ℤ a = omega (arith, ints) in ap in_r
 
 pub neg-neg : (a : ℤ) → neg_ℤ (neg_ℤ a) ≡ a
 neg-neg a = omega (arith, ints)
+
+pub div-complete : (a b q : ℤ) → b ≢ pos 0 → q *ℤ b ≡ a → div a b ≡ in_range q
+div-complete a b q h e =
+    let quotient : floor_quotient a b ≡ q = rw (← e) (floor_quotient-product q b h) in
+    let nothing : a -ℤ (q *ℤ b) ≡ pos 0 = omega (arith, ints, e) in
+    rw (is_zero-nonzero b h, quotient, nothing) refl
+
+pub rem-parts : (a b r : ℤ) → rem a b ≡ Ok r → (q : ℤ) × (q *ℤ b +ℤ r ≡ a)
+rem-parts a b r e =
+    let parts = remainder_parts (is_zero b) (floor_remainder a b) r e in
+    (floor_quotient a b, rw (← parts.1) (omega (arith, ints)))

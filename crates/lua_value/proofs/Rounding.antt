@@ -1,7 +1,8 @@
--- Division rounded down, from division rounded toward zero.
-use Rattle.std.proofs.Common.{◌≡◌, ◌≢◌, ℕ, zero, suc, ◌+◌, ◌-◌, ◌%◌, ◌≤◌, ◌<◌, inl, inr, ℤ, pos, negsuc, neg_ℤ, ◌*ℤ◌, unsigned_abs, arith, refl, div-add-mod', mod-lt, zero-mul, div-mul-le_self}
+-- Division rounded down: the remainder by the signs, how large it is, and the quotient of a product.
+use Rattle.std.proofs.Common.{◌≡◌, ◌≢◌, ℕ, zero, suc, ◌+◌, ◌*◌, ◌-◌, ◌%◌, ◌≤◌, ◌<◌, inl, inr, ℤ, pos, negsuc, neg_ℤ, ◌*ℤ◌, unsigned_abs, arith, refl, div-add-mod', mod-lt, zero-mul, div-mul-le_self, mul-div_cancel, ap}
 use Rattle.std.proofs.lemmas.Int.{ints}
 use Rattle.std.proofs.Math.Nat.{zero-div}
+use Rattle.std.proofs.lemmas.Nat.{div-mul-add}
 use Rattle.std.specs.Int.{int_div_euclid}
 use Rattle.lua_value.specs.Arithmetic.{floor_by, floor_quotient, floor_remainder, LiesBefore}
 
@@ -56,3 +57,17 @@ remainder_side (pos zero) (negsuc b) h = rw (remainder-zero-negsuc b) (inr (omeg
 remainder_side (pos (suc a)) (negsuc b) h = rw (remainder-suc-negsuc a b) (inr (omega (arith, ints), omega (arith, ints)))
 remainder_side (negsuc a) (negsuc b) h =
     rw (remainder-negsuc-negsuc a b) (inr (omega (arith, ints, mod-lt (suc a) {m = suc b} (omega arith)), omega (arith, ints)))
+
+-- a product divided by one of its factors
+floor_by-product : (q : ℤ) (d : ℕ) → 0 < d → floor_by (q *ℤ pos d) d ≡ q
+floor_by-product (pos n) d h = ap (λ k. pos k) (mul-div_cancel n h)
+floor_by-product (negsuc n) d h =
+    let parts : suc n * d ≡ suc (n * d + (d - 1)) = omega arith in
+    rw parts (ap (λ k. negsuc k) (div-mul-add n d (d - 1) (omega arith)))
+
+pub floor_quotient-product : (q b : ℤ) → b ≢ pos 0 → floor_quotient (q *ℤ b) b ≡ q
+floor_quotient-product q (pos zero) h = absurd (h refl)
+floor_quotient-product q (pos (suc b)) h = floor_by-product q (suc b) (omega arith)
+floor_quotient-product q (negsuc b) h =
+    let turned : neg_ℤ (q *ℤ negsuc b) ≡ q *ℤ pos (suc b) = omega (arith, ints) in
+    rw turned (floor_by-product q (suc b) (omega arith))

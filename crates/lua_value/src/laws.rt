@@ -1,7 +1,7 @@
 //! Laws of the definitions, each proved as the contract of a function that does nothing.
 
-ghost use Rattle.std.specs.Prelude.{◌≡◌, ℕ, ℤ, neg_ℤ, ◌*ℤ◌, List};
-ghost use Rattle.lua_value.specs.Arithmetic.{add, mul, div, rem, LiesBefore};
+ghost use Rattle.std.specs.Prelude.{◌≡◌, ◌≢◌, ℕ, ℤ, pos, neg_ℤ, ◌+ℤ◌, ◌*ℤ◌, List};
+ghost use Rattle.lua_value.specs.Arithmetic.{add, mul, div, rem, in_range, LiesBefore};
 ghost use Rattle.lua_value.specs.Numeral.{Denotes};
 ghost use Rattle.lua_value.specs.NumberText.{ReadsAs};
 
@@ -11,14 +11,16 @@ pub fn operations_commute()
     ensures product { (a b : ℤ) → mul a b ≡ mul b a }
 {}
 
-/// A quotient times its divisor is the dividend.
+/// There is a quotient exactly where a number times the divisor is the dividend, and it is that number.
 pub fn quotient_divides()
-    ensures { (a b q : ℤ) → div a b ≡ Ok q → q *ℤ b ≡ a }
+    ensures value { (a b q : ℤ) → div a b ≡ Ok q → q *ℤ b ≡ a }
+    ensures complete { (a b q : ℤ) → b ≢ pos 0 → q *ℤ b ≡ a → div a b ≡ in_range q }
 {}
 
-/// A remainder has the divisor's sign and is smaller.
-pub fn remainder_has_divisors_sign()
-    ensures { (a b r : ℤ) → rem a b ≡ Ok r → LiesBefore r b }
+/// A remainder is what a multiple of the divisor leaves of the dividend; it has the divisor's sign and is smaller.
+pub fn remainder_is_left()
+    ensures parts { (a b r : ℤ) → rem a b ≡ Ok r → (q : ℤ) × (q *ℤ b +ℤ r ≡ a) }
+    ensures sign { (a b r : ℤ) → rem a b ≡ Ok r → LiesBefore r b }
 {}
 
 /// The negative of the negative is the number.

@@ -229,7 +229,7 @@ fn faults(rt: HostRuntime) -> Result<(), Fail> {
 fn laws() {
     crate::laws::operations_commute();
     crate::laws::quotient_divides();
-    crate::laws::remainder_has_divisors_sign();
+    crate::laws::remainder_is_left();
     crate::laws::negation_undoes_itself();
     crate::laws::texts_have_one_value();
 }
