@@ -1,6 +1,10 @@
 pub mod Saturation
 pub mod DigitLemmas
 pub mod NumeralLaws
+pub mod Rounding
+pub mod Words
+pub mod PowerLemmas
+pub mod Ranges
 pub mod Scaling
 pub mod Reading
 pub mod Placing

@@ -7,7 +7,7 @@ use Rattle.lua_value.specs.Sign.{Sign, sign_text}
 use Rattle.lua_value.specs.Sign.Sign.{unsigned, plus, minus}
 use Rattle.lua_value.specs.Numeral.{Numeral, Exponent, fraction_digits, fraction_text, exponent_text, exponent_value, numeral_text, IsOptionalExponent, IsWellFormed, HasValue, IsScaled, IsNumeral, IsAnswer, IsHexadecimalAnswer}
 use Rattle.lua_value.specs.Numeral.Numeral.{hexadecimal, decimal}
-use Rattle.lua_value.specs.Place.{BeginsWithNoDigit, EndsMantissa}
+use Rattle.lua_value.specs.Place.{BeginsWithNoDigit, EndsMantissa, HasNoSign}
 use Rattle.lua_value.specs.declared.numeral.NumeralFault.{NumeralFault}
 use Rattle.lua_value.specs.declared.numeral.NumeralFault.TheVariants.{Malformed, NotWhole}
 
@@ -63,21 +63,26 @@ pub exponent_ends : (e : Option Exponent) (f : Option (List ℕ)) → IsOptional
 exponent_ends None f h = (tt, λ _. tt)
 exponent_ends (Some e) f h = let first = letter_begins e.letter [] h.0 in (first.0, λ _. first.1)
 
-not_sign : (s : ℕ) (cs xs ys : List ℕ) → ¬ (digit_value s < 10) → AllDigits 10 xs → xs ≡ s ∷ ys → ⊥
-not_sign s cs [] ys h all e = cc
-not_sign s cs (x ∷ xs) ys h all e = h (rw (same_head e) at all.0)
+pub digits_have_no_sign : (xs : List ℕ) → AllDigits 10 xs → HasNoSign xs
+digits_have_no_sign [] all c cs e = cc
+digits_have_no_sign (x ∷ xs) all c cs e =
+    let below : digit_value c < 10 = rw (same_head e) at all.0 in
+    (λ h. no_digit_at 43 (λ k. omega arith) (rw h at below), λ h. no_digit_at 45 (λ k. omega arith) (rw h at below))
+  where
+    no_digit_at : (d : ℕ) → ¬ (digit_value d < 10) → digit_value d < 10 → ⊥
+    no_digit_at d h k = h k
 
-apart_signs : ◌≡◌ {A = ℕ} 43 45 → ⊥
+pub apart_signs : ◌≡◌ {A = ℕ} 43 45 → ⊥
 apart_signs h = omega arith
 
-signs_unique : (s t : Sign) (xs ys : List ℕ) → AllDigits 10 xs → AllDigits 10 ys → sign_text s ++ xs ≡ sign_text t ++ ys → (s ≡ t) × (xs ≡ ys)
+pub signs_unique : (s t : Sign) (xs ys : List ℕ) → HasNoSign xs → HasNoSign ys → sign_text s ++ xs ≡ sign_text t ++ ys → (s ≡ t) × (xs ≡ ys)
 signs_unique unsigned unsigned xs ys p q e = (refl, e)
-signs_unique unsigned plus xs ys p q e = absurd (not_sign 43 [] xs ys (λ h. omega arith) p e)
-signs_unique unsigned minus xs ys p q e = absurd (not_sign 45 [] xs ys (λ h. omega arith) p e)
-signs_unique plus unsigned xs ys p q e = absurd (not_sign 43 [] ys xs (λ h. omega arith) q (sym e))
+signs_unique unsigned plus xs ys p q e = absurd ((p 43 ys e).0 refl)
+signs_unique unsigned minus xs ys p q e = absurd ((p 45 ys e).1 refl)
+signs_unique plus unsigned xs ys p q e = absurd ((q 43 xs (sym e)).0 refl)
 signs_unique plus plus xs ys p q e = (refl, same_tail e)
 signs_unique plus minus xs ys p q e = absurd (apart_signs (same_head e))
-signs_unique minus unsigned xs ys p q e = absurd (not_sign 45 [] ys xs (λ h. omega arith) q (sym e))
+signs_unique minus unsigned xs ys p q e = absurd ((q 45 xs (sym e)).1 refl)
 signs_unique minus plus xs ys p q e = absurd (apart_signs (sym (same_head e)))
 signs_unique minus minus xs ys p q e = (refl, same_tail e)
 
@@ -86,7 +91,7 @@ exponent_unique None None p q h = refl
 exponent_unique None (Some e) p q h = cc
 exponent_unique (Some d) None p q h = cc
 exponent_unique (Some d) (Some e) p q h =
-    let rest = signs_unique d.sign e.sign d.digits e.digits p.2 q.2 (same_tail h) in
+    let rest = signs_unique d.sign e.sign d.digits e.digits (digits_have_no_sign d.digits p.2) (digits_have_no_sign e.digits q.2) (same_tail h) in
     let letter : d.letter ≡ e.letter = same_head h in
     λ i. Some (record { letter = letter i; sign = rest.0 i; digits = rest.1 i })
 

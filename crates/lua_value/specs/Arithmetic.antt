@@ -1,6 +1,6 @@
 -- Arithmetic on whole numbers of any size (Lua 5.1 manual, section 2.5.1), and where an operation has no Num as its
 -- answer: this range, and no value in place of a fraction or an infinity, are this project's own.
-use Rattle.std.specs.Prelude.{Bool, ℕ, zero, suc, ◌/◌, ℤ, pos, negsuc, ◌+ℤ◌, ◌-ℤ◌, ◌*ℤ◌, neg_ℤ, unsigned_abs, Result, Ok, Err, if◌then◌else◌, nat_le, ◌==◌}
+use Rattle.std.specs.Prelude.{Bool, ℕ, zero, suc, ◌/◌, ℤ, pos, negsuc, ◌+ℤ◌, ◌-ℤ◌, ◌*ℤ◌, ◌≤ℤ◌, ◌<ℤ◌, ◌⊎◌, neg_ℤ, unsigned_abs, Result, Ok, Err, if◌then◌else◌, nat_le, ◌==◌}
 use Rattle.lua_value.specs.declared.arithmetic.NumFault.{NumFault}
 use Rattle.lua_value.specs.declared.arithmetic.NumFault.TheVariants.{NotWhole, OutOfRange}
 
@@ -53,3 +53,9 @@ rem a b = if is_zero b then Err NotWhole else in_range (floor_remainder a b)
 abbrev pub pow : ℤ → ℤ → Result ℤ NumFault
 pow a (pos e) = in_range (power a e)
 pow a (negsuc e) = Err NotWhole
+
+-- ---- what the laws speak of
+
+-- r is 0, or lies on the same side of 0 as b and nearer to it
+abbrev pub LiesBefore : ℤ → ℤ → Type 0
+LiesBefore r b = ((pos 0 ≤ℤ r) × (r <ℤ b)) ⊎ ((b <ℤ r) × (r ≤ℤ pos 0))

@@ -1,5 +1,6 @@
 pub mod Num
 pub mod Sign
 pub mod Numeral
+pub mod NumberText
 pub mod Place
 pub mod Arithmetic

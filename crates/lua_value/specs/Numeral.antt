@@ -1,6 +1,6 @@
 -- Numerals of Lua 5.1 (manual, section 2.1): what their texts are, and the exact value of each. Hexadecimal ones are
 -- read by the reference program too; that the value is exact and never rounded is this project's own.
-use Rattle.std.specs.Prelude.{◌≡◌, ℕ, ◌+◌, ◌*◌, ◌^◌, ◌<◌, ◌≤◌, ℤ, pos, negsuc, suc, ◌*ℤ◌, ◌⊎◌, List, [], ◌∷◌, ◌++◌, length, codes, Option, Some, None, Result, Ok, Err, MatchOption, All, ⊤}
+use Rattle.std.specs.Prelude.{◌≡◌, ℕ, ◌+◌, ◌*◌, ◌^◌, ◌<◌, ℤ, pos, negsuc, suc, ◌*ℤ◌, ◌⊎◌, List, [], ◌∷◌, ◌++◌, length, codes, Option, Some, None, Result, Ok, Err, MatchOption, ⊤}
 use Rattle.std.specs.Str.Parse.{AllDigits, digits_value}
 use Rattle.lua_value.specs.Num.{IsNum}
 use Rattle.lua_value.specs.Sign.{Sign, sign_text, signed}
@@ -111,22 +111,3 @@ IsHexadecimalAnswer digits (Ok z) =
 IsHexadecimalAnswer digits (Err Malformed) = 0 < length digits → ¬ AllDigits 16 digits
 IsHexadecimalAnswer digits (Err NotWhole) =
     (0 < length digits) × AllDigits 16 digits × ¬ IsNum (pos (digits_value 16 digits))
-
--- ---- texts with blanks and a sign
-
--- space, tab, newline, vertical tab, form feed or return
-abbrev pub IsBlank : ℕ → Type 0
-IsBlank c = (c ≡ 32) ⊎ ((9 ≤ c) × (c ≤ 13))
-
--- the text is blanks, an optional sign, a numeral and blanks, and stands for z
-pub record ReadsAs (text : List ℕ) (z : ℤ) : Type 0 where
-  pub before : List ℕ
-  pub sign : Sign
-  pub numeral : List ℕ
-  pub after : List ℕ
-  pub size : ℤ
-  pub blank_before : All IsBlank before
-  pub blank_after : All IsBlank after
-  pub parts : text ≡ before ++ (sign_text sign ++ (numeral ++ after))
-  pub denotes : Denotes numeral size
-  pub value : z ≡ signed sign size

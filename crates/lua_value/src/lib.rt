@@ -7,9 +7,13 @@
 mod arithmetic;
 mod decimal;
 mod digits;
+mod division;
 mod hexadecimal;
+pub mod laws;
 mod num;
+mod number_text;
 mod numeral;
+mod powers;
 #[cfg(test)]
 mod tests;
 
