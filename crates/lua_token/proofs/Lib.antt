@@ -1,0 +1,5 @@
+pub mod BeginsLemmas
+pub mod Symbols
+pub mod Strings
+pub mod Parts
+pub mod Steps

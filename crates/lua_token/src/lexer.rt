@@ -1,0 +1,71 @@
+ghost use Rattle.std.specs.Prelude.{◌≡◌, ◌<◌, ◌≤◌, ◌^◌, ◌⊎◌, ◌++◌, ◌==◌, length, count_by, IfOk, IfErr, OnOk, OnErr, Ok, Err, Result, List};
+ghost use Rattle.lua_token.specs.Cuts.{tokens_of};
+ghost use Rattle.lua_token.specs.Place.{step_length};
+ghost use Rattle.lua_token.specs.Answer.{IsAnswer, no_memory};
+
+use crate::Token;
+use crate::fault::{LexFault, LexWhat};
+use crate::step::{Step, step_at};
+use std::alloc::Global;
+
+// The greatest length of a source.
+const MAX_LENGTH: usize = 16_777_216;
+
+// How many newline bytes a text has.
+fn newlines(text: &[u8]) -> usize
+    ensures { result ≡ count_by (λ b. b == 10) text.now }
+{
+    text.iter().filter(|b| **b == b'\n').count()
+}
+
+// Puts the token of a step at the end, where it has one.
+fn put(tokens: &mut Vec<Token>, step: &Step, start: usize, line: usize) -> Result<(), LexFault>
+    requires start { start < 2 ^ 32 }
+    requires length { step_length step.now < 2 ^ 32 }
+    requires line { line < 2 ^ 32 }
+    ensures ok { OnOk result (tokens.new.items ≡ tokens.old.items ++ tokens_of step.now start line) }
+    ensures err { IfErr result (λ fault. fault ≡ no_memory) }
+{
+    if let Step::Found(kind, length) = step {
+        tokens.push(Token {
+            kind: *kind,
+            start: start as u32,
+            length: *length as u32,
+            line: line as u32,
+        })?;
+    }
+    Ok(())
+}
+
+/// The tokens of a source (Lua 5.1 manual §2.1), in order.
+pub fn tokens(alloc: Global, source: &[u8]) -> Result<Vec<Token>, LexFault>
+    ensures found { IfOk result (λ tokens. IsAnswer source.now (Ok tokens.items)) }
+    ensures fault { IfErr result (λ fault. (fault ≡ no_memory) ⊎ IsAnswer source.now (Err fault)) }
+{
+    if source.len() > MAX_LENGTH {
+        return Err(LexFault {
+            line: 1,
+            what: LexWhat::TooLong,
+        });
+    }
+    let mut tokens = Vec::new(alloc);
+    let mut start = 0;
+    let mut line = 1;
+    while start < source.len() {
+        match step_at(&source[start..]) {
+            Ok(step) => {
+                put(&mut tokens, &step, start, line)?;
+                let end = start + step.length();
+                line += newlines(&source[start..end]);
+                start = end;
+            }
+            Err(what) => {
+                return Err(LexFault {
+                    line: line as u32,
+                    what,
+                });
+            }
+        }
+    }
+    Ok(tokens)
+}

@@ -1,0 +1,19 @@
+//! The tokens of Lua 5.1.
+#![tactic(auto)]
+
+mod bytes;
+mod fault;
+mod kind;
+mod lexer;
+mod long;
+mod number;
+mod quoted;
+mod spelled;
+mod start;
+mod step;
+mod token;
+
+pub use fault::{LexFault, LexWhat};
+pub use kind::Kind;
+pub use lexer::tokens;
+pub use token::Token;
