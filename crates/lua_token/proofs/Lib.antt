@@ -3,3 +3,4 @@ pub mod Symbols
 pub mod Strings
 pub mod Parts
 pub mod Steps
+pub mod Once

@@ -1,7 +1,9 @@
-ghost use Rattle.std.specs.Prelude.{◌≡◌, ◌<◌, ◌≤◌, ◌^◌, ◌⊎◌, ◌++◌, ◌==◌, length, count_by, IfOk, IfErr, OnOk, OnErr, Ok, Err, Result, List};
-ghost use Rattle.lua_token.specs.Cuts.{tokens_of};
+ghost use Rattle.std.specs.Prelude.{◌≡◌, ◌<◌, ◌≤◌, ◌^◌, ◌⊎◌, ◌++◌, ◌==◌, length, count_by, IfOk, IfErr, OnOk, OnErr, Ok, Err, Result, List, All};
+ghost use Rattle.lua_token.specs.Cuts.{StandsIn, tokens_of};
 ghost use Rattle.lua_token.specs.Place.{step_length};
-ghost use Rattle.lua_token.specs.Answer.{IsAnswer, no_memory};
+ghost use Rattle.lua_token.specs.Answer.{IsAnswer, Gives, no_memory};
+ghost use Rattle.lua_token.specs.declared.fault.LexFault.{LexFault as Fault};
+ghost use Rattle.lua_token.specs.declared.token.Token.{Token as Piece};
 
 use crate::Token;
 use crate::fault::{LexFault, LexWhat};
@@ -39,6 +41,20 @@ fn put(tokens: &mut Vec<Token>, step: &Step, start: usize, line: usize) -> Resul
 
 /// The tokens of a source (Lua 5.1 manual §2.1), in order.
 pub fn tokens(alloc: Global, source: &[u8]) -> Result<Vec<Token>, LexFault>
+    ensures found { IfOk result (λ tokens. IsAnswer source.now (Ok tokens.items)) }
+    ensures fault { IfErr result (λ fault. (fault ≡ no_memory) ⊎ IsAnswer source.now (Err fault)) }
+
+    // What is an answer is given, unless memory runs out.
+    ensures only { (answer : Result (List Piece) Fault) → IsAnswer source.now answer → Gives result answer }
+
+    // Each token stands where it says.
+    ensures each { IfOk result (λ tokens. All (StandsIn source.now) tokens.items) }
+{
+    cut(alloc, source)
+}
+
+// The answer, token by token.
+fn cut(alloc: Global, source: &[u8]) -> Result<Vec<Token>, LexFault>
     ensures found { IfOk result (λ tokens. IsAnswer source.now (Ok tokens.items)) }
     ensures fault { IfErr result (λ fault. (fault ≡ no_memory) ⊎ IsAnswer source.now (Err fault)) }
 {

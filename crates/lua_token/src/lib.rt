@@ -4,6 +4,7 @@
 mod bytes;
 mod fault;
 mod kind;
+mod laws;
 mod lexer;
 mod long;
 mod number;
@@ -15,5 +16,6 @@ mod token;
 
 pub use fault::{LexFault, LexWhat};
 pub use kind::Kind;
+pub use laws::{list_or_fault, one_fault, one_list};
 pub use lexer::tokens;
 pub use token::Token;

@@ -1,7 +1,7 @@
 use Rattle.std.proofs.Common.{◌≡◌, ◌≤◌, ◌-◌, length}
 use Rattle.lua_token.specs.Cuts.{Between, line_of}
 use Rattle.lua_token.specs.Answer.{max_length}
-use Rattle.lua_token.proofs.lexer.tokens.Given as goal
+use Rattle.lua_token.proofs.lexer.cut.Given as goal
 
 abbrev pub invariant-loop-start : goal.invariant-loop-start
 invariant-loop-start l = record {

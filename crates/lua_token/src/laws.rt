@@ -1,0 +1,21 @@
+//! What holds of the definitions: functions that do nothing, and whose contracts are the laws.
+
+ghost use Rattle.std.specs.Prelude.{◌≡◌, ℕ, List};
+ghost use Rattle.lua_token.specs.Cuts.{Cuts, Faults};
+ghost use Rattle.lua_token.specs.declared.fault.LexFault.{LexFault};
+ghost use Rattle.lua_token.specs.declared.token.Token.{Token};
+
+/// A source is cut into at most one list of tokens.
+pub fn one_list()
+    ensures { (source : List ℕ) (ts us : List Token) → Cuts source ts → Cuts source us → ts ≡ us }
+{}
+
+/// A source has at most one first fault.
+pub fn one_fault()
+    ensures { (source : List ℕ) (f g : LexFault) → Faults source f → Faults source g → f ≡ g }
+{}
+
+/// A source that has a fault is cut into no list of tokens.
+pub fn list_or_fault()
+    ensures { (source : List ℕ) (ts : List Token) (fault : LexFault) → Cuts source ts → Faults source fault → ⊥ }
+{}
