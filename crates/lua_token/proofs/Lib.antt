@@ -4,3 +4,4 @@ pub mod Strings
 pub mod Parts
 pub mod Steps
 pub mod Once
+pub mod Values

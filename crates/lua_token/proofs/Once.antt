@@ -42,7 +42,7 @@ judged_once text (Err numeral.NotWhole) (Err numeral.NotWhole) p q = refl
 
 -- ---- long brackets
 
-first_once : (n : ℕ) (body : List ℕ) (a b : Option ℕ) → FirstClosing n body a → FirstClosing n body b → a ≡ b
+pub first_once : (n : ℕ) (body : List ℕ) (a b : Option ℕ) → FirstClosing n body a → FirstClosing n body b → a ≡ b
 first_once n body None None p q = refl
 first_once n body None (Some k) p q = absurd (p k q.0)
 first_once n body (Some m) None p q = absurd (q m p.0)
@@ -61,10 +61,10 @@ long_once n text a b (m, p, e) (k, q, f) = e ∙ ap (option_map (λ (m : ℕ). n
 -- ---- quoted strings
 
 -- no further character stands at the end
-abbrev Ends : ℕ → List ℕ → Type 0
+abbrev pub Ends : ℕ → List ℕ → Type 0
 Ends q rest = (b n : ℕ) → character_at q rest ≡ Byte b n → ⊥
 
-characters_once : (q : ℕ) {text bytes rest bytes' rest' : List ℕ} → Characters q text bytes rest → Characters q text bytes' rest' → Ends q rest → Ends q rest' → (bytes ≡ bytes') × (rest ≡ rest')
+pub characters_once : (q : ℕ) {text bytes rest bytes' rest' : List ℕ} → Characters q text bytes rest → Characters q text bytes' rest' → Ends q rest → Ends q rest' → (bytes ≡ bytes') × (rest ≡ rest')
 characters_once q nothing nothing d d' = (refl, refl)
 characters_once q nothing (then_more {b} {n} e h) d d' = absurd (d b n e)
 characters_once q (then_more {b} {n} e h) nothing d d' = absurd (d' b n e)

@@ -4,7 +4,7 @@ use Rattle.std.specs.Prelude.{find, nat_eq, IfSome}
 use Rattle.std.specs.List.{starts_with, AllByRecursion}
 use Rattle.std.specs.Cmp.Lexicographic.{pointwise}
 use Rattle.std.proofs.lemmas.List.{length-take}
-use Rattle.lua_token.specs.Spelling.{spelling, symbols, symbol_at}
+use Rattle.lua_token.specs.Spelling.{spelling, keywords, symbols, keyword_of, symbol_at}
 use Rattle.lua_token.specs.declared.kind.Kind.{Kind}
 
 pointwise_length : (xs ys : List ℕ) → pointwise nat_eq xs ys ≡ true → length xs ≡ length ys
@@ -42,3 +42,20 @@ symbol_fits text = found_fits text symbols all_some
 
 pub kind_fits : (text : List ℕ) (k : Kind) → Some k ≡ symbol_at text → (0 < length (spelling k)) × (length (spelling k) ≤ length text)
 kind_fits text k e = subst (λ o. IfSome o (Fits text)) (sym e) (symbol_fits text)
+
+-- a keyword that is found has bytes
+keyword_found : (word : List ℕ) (ks : List Kind) → AllByRecursion (λ k. 0 < length (spelling k)) ks → IfSome (find (λ k. pointwise nat_eq (spelling k) word) ks) (λ k. 0 < length (spelling k))
+keyword_found word [] some = tt
+keyword_found word (k ∷ ks) some = go (pointwise nat_eq (spelling k) word) (keyword_found word ks some.1)
+  where
+    go : (b : Bool) → IfSome (find (λ k. pointwise nat_eq (spelling k) word) ks) (λ k. 0 < length (spelling k)) → IfSome (cond b (Some k) (find (λ k. pointwise nat_eq (spelling k) word) ks)) (λ k. 0 < length (spelling k))
+    go true later = some.0
+    go false later = later
+
+all_keywords_some : AllByRecursion (λ k. 0 < length (spelling k)) keywords
+unfolding spelling
+all_keywords_some = omega arith
+
+pub keyword_is_some : (word : List ℕ) (k : Kind) → Some k ≡ keyword_of word → 0 < length (spelling k)
+unfolding keyword_of
+keyword_is_some word k e = subst (λ o. IfSome o (λ k. 0 < length (spelling k))) (sym e) (keyword_found word keywords all_keywords_some)

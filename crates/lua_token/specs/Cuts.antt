@@ -13,6 +13,7 @@ line_of source place = 1 + count_by (λ b. b == 10) (take place source)
 -- the token stands in the source where it says: its spelling, its kind and its line
 pub record StandsIn (source : List ℕ) (t : Token) : Type 0 where
   pub found : StandsAt (drop t.start source) (Ok (Found t.kind t.length))
+  pub within : t.start + t.length ≤ length source
   pub line : t.line ≡ line_of source t.start
 
 -- from one place up to another these tokens stand in order, and only blanks and comments between them

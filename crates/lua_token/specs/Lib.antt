@@ -6,3 +6,4 @@ pub mod Quoted
 pub mod Place
 pub mod Cuts
 pub mod Answer
+pub mod Value

@@ -2,6 +2,7 @@
 
 ghost use Rattle.std.specs.Prelude.{◌≡◌, ℕ, List};
 ghost use Rattle.lua_token.specs.Cuts.{Cuts, Faults};
+ghost use Rattle.lua_token.specs.Value.{HasValue};
 ghost use Rattle.lua_token.specs.declared.fault.LexFault.{LexFault};
 ghost use Rattle.lua_token.specs.declared.token.Token.{Token};
 
@@ -18,4 +19,9 @@ pub fn one_fault()
 /// A source that has a fault is cut into no list of tokens.
 pub fn list_or_fault()
     ensures { (source : List ℕ) (ts : List Token) (fault : LexFault) → Cuts source ts → Faults source fault → ⊥ }
+{}
+
+/// A string's token stands for one list of bytes.
+pub fn one_value()
+    ensures { (source : List ℕ) (t : Token) (a b : List ℕ) → HasValue source t a → HasValue source t b → a ≡ b }
 {}

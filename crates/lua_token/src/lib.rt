@@ -13,9 +13,14 @@ mod spelled;
 mod start;
 mod step;
 mod token;
+mod value;
 
 pub use fault::{LexFault, LexWhat};
 pub use kind::Kind;
-pub use laws::{list_or_fault, one_fault, one_list};
+pub use laws::{list_or_fault, one_fault, one_list, one_value};
 pub use lexer::tokens;
 pub use token::Token;
+pub use value::string_value;
+
+#[cfg(test)]
+mod tests;

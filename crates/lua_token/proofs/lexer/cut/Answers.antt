@@ -27,5 +27,5 @@ loop-start-preserved c =
       short = so_far.short;
       within = omega (arith, c.in-Ok.ensures.fits);
       line = ap (λ (k : ℕ). c.loop-start.line + k) lines ∙ line_more source place c.length.result c.loop-start.line so_far.line;
-      so_far = taken source c.loop-start.tokens.items c.put.new.tokens.items place c.loop-start.line c.length.result c.in-Ok.step so_far.so_far so_far.line at c.in_ok-put-in-Ok.ensures.ok c.length.ensures;
+      so_far = taken source c.loop-start.tokens.items c.put.new.tokens.items place c.loop-start.line c.length.result c.in-Ok.step so_far.so_far so_far.line at (omega (arith, c.in-Ok.ensures.fits)) c.in_ok-put-in-Ok.ensures.ok c.length.ensures;
     }
