@@ -5,3 +5,6 @@ pub mod Parts
 pub mod Steps
 pub mod Once
 pub mod Values
+pub mod Shapes
+pub mod Fronts
+pub mod Spellings

@@ -55,7 +55,7 @@ first_once n body (Some m) (Some k) p q =
       ]
     ]
 
-long_once : (n : ℕ) (text : List ℕ) (a b : Option ℕ) → LongAt n text a → LongAt n text b → a ≡ b
+pub long_once : (n : ℕ) (text : List ℕ) (a b : Option ℕ) → LongAt n text a → LongAt n text b → a ≡ b
 long_once n text a b (m, p, e) (k, q, f) = e ∙ ap (option_map (λ (m : ℕ). n + 2 + m + (n + 2))) (first_once n (drop (n + 2) text) m k p q) ∙ sym f
 
 -- ---- quoted strings

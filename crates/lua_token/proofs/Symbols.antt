@@ -32,7 +32,7 @@ found_fits text (k ∷ ks) some = go (starts_with nat_eq text (spelling k)) refl
     go true e later = (some.0, front_length text (spelling k) e)
     go false e later = later
 
-all_some : AllByRecursion (λ k. 0 < length (spelling k)) symbols
+pub all_some : AllByRecursion (λ k. 0 < length (spelling k)) symbols
 unfolding spelling
 all_some = omega arith
 

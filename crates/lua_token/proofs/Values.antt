@@ -26,7 +26,7 @@ use Rattle.lua_token.specs.declared.token.Token.{Token}
 use Rattle.lua_token.proofs.Symbols.{kind_fits, keyword_is_some}
 use Rattle.lua_token.proofs.Once.{Ends, characters_once, first_once}
 
-closes : (ch : Character) (n size : ℕ) → QuoteEnds ch n (Ok (Found Str size)) → ch ≡ Closing
+pub closes : (ch : Character) (n size : ℕ) → QuoteEnds ch n (Ok (Found Str size)) → ch ≡ Closing
 closes (Byte b k) n size h = absurd h
 closes Closing n size h = refl
 closes Unfinished n size h = absurd cc
@@ -35,11 +35,11 @@ closes TooLarge n size h = absurd cc
 quote_is_closed : (text : List ℕ) (size : ℕ) → Stands starts.Quote text (Ok (Found Str size)) → (bytes : List ℕ) × QuotedBytes text bytes
 quote_is_closed text size (bytes, rest, h, e) = (bytes, (rest, h, closes (character_at (slice_index text 0) rest) _ size e))
 
-long_by : (n size : ℕ) (text : List ℕ) (m : Option ℕ) → FirstClosing n (drop (n + 2) text) m → Some size ≡ Rattle.std.specs.Option.option_map (λ (m : ℕ). n + 2 + m + (n + 2)) m → (k : ℕ) × FirstClosing n (drop (n + 2) text) (Some k) × (size ≡ n + 2 + k + (n + 2))
+pub long_by : (n size : ℕ) (text : List ℕ) (m : Option ℕ) → FirstClosing n (drop (n + 2) text) m → Some size ≡ Rattle.std.specs.Option.option_map (λ (m : ℕ). n + 2 + m + (n + 2)) m → (k : ℕ) × FirstClosing n (drop (n + 2) text) (Some k) × (size ≡ n + 2 + k + (n + 2))
 long_by n size text (Some k) h e = (k, h, cc)
 long_by n size text None h e = absurd cc
 
-sized : (size : ℕ) (o : Option ℕ) → ◌≡◌ {A = Result Step LexWhat} (Ok (Found Str size)) (Rattle.lua_token.specs.Place.long_step o) → o ≡ Some size
+pub sized : (size : ℕ) (o : Option ℕ) → ◌≡◌ {A = Result Step LexWhat} (Ok (Found Str size)) (Rattle.lua_token.specs.Place.long_step o) → o ≡ Some size
 sized size (Some n) e = cc
 sized size None e = absurd cc
 

@@ -7,3 +7,4 @@ pub mod Place
 pub mod Cuts
 pub mod Answer
 pub mod Value
+pub mod Longest

@@ -1,7 +1,8 @@
 //! What holds of the definitions: functions that do nothing, and whose contracts are the laws.
 
-ghost use Rattle.std.specs.Prelude.{◌≡◌, ℕ, List};
-ghost use Rattle.lua_token.specs.Cuts.{Cuts, Faults};
+ghost use Rattle.std.specs.Prelude.{◌≡◌, ◌+◌, ℕ, List, take, drop};
+ghost use Rattle.lua_token.specs.Cuts.{Cuts, Faults, StandsIn};
+ghost use Rattle.lua_token.specs.Longest.{IsLongestSpelling};
 ghost use Rattle.lua_token.specs.Value.{HasValue};
 ghost use Rattle.lua_token.specs.declared.fault.LexFault.{LexFault};
 ghost use Rattle.lua_token.specs.declared.token.Token.{Token};
@@ -24,4 +25,10 @@ pub fn list_or_fault()
 /// A string's token stands for one list of bytes.
 pub fn one_value()
     ensures { (source : List ℕ) (t : Token) (a b : List ℕ) → HasValue source t a → HasValue source t b → a ≡ b }
+{}
+
+/// A token is a spelling of its kind, and no longer spelling stands at its place.
+pub fn longest()
+    ensures { (source : List ℕ) (t : Token) → StandsIn source t →
+        IsLongestSpelling t.kind (take t.length (drop t.start source)) (drop (t.start + t.length) source) }
 {}

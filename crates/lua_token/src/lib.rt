@@ -17,7 +17,7 @@ mod value;
 
 pub use fault::{LexFault, LexWhat};
 pub use kind::Kind;
-pub use laws::{list_or_fault, one_fault, one_list, one_value};
+pub use laws::{list_or_fault, longest, one_fault, one_list, one_value};
 pub use lexer::tokens;
 pub use token::Token;
 pub use value::string_value;

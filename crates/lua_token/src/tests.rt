@@ -272,4 +272,5 @@ fn kinds(rt: HostRuntime) {
     one_fault();
     list_or_fault();
     one_value();
+    longest();
 }
