@@ -1,9 +1,9 @@
 -- What is known of a text from what begins at its front.
-use Rattle.std.proofs.Common.{◌≡◌, ℕ, ◌+◌, ◌<◌, ◌≤◌, Bool, true, false, cond, List, [], ◌∷◌, length, drop, Option, Some, None, refl, sym, subst, arith}
+use Rattle.std.proofs.Common.{◌≡◌, ℕ, ◌+◌, ◌<◌, ◌≤◌, Bool, true, false, cond, List, [], ◌∷◌, length, Option, Some, None, refl, sym, subst, arith}
 use Rattle.std.specs.Prelude.{◌||◌, ◌&&◌, ◌==◌}
 use Rattle.std.specs.List.{prefix_len}
 use Rattle.lua_token.specs.Bytes.{is_blank, is_letter, is_digit, is_of, first_is}
-use Rattle.lua_token.specs.Run.{starts_number, mark_length, number_length}
+use Rattle.lua_token.specs.Run.{starts_number, number_length}
 use Rattle.lua_token.specs.Long.{level}
 use Rattle.lua_token.specs.Place.{begins, long_or_symbol}
 use Rattle.lua_token.specs.declared.bytes.Class.TheVariants.{InName, DigitOrDot}

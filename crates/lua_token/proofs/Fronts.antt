@@ -13,7 +13,7 @@ use Rattle.std.proofs.Common.{◌⊎◌}
 use Rattle.lua_value.specs.Sign.{Sign}
 use Rattle.lua_value.specs.Sign.Sign.{unsigned, plus, minus}
 use Rattle.lua_value.specs.Sign.{sign_text}
-use Rattle.lua_value.specs.Numeral.{Exponent, fraction_digits, fraction_text, exponent_text, numeral_text, IsExponent, IsWellFormed, IsNumeral}
+use Rattle.lua_value.specs.Numeral.{Exponent, fraction_digits, fraction_text, exponent_text, IsExponent, IsNumeral}
 use Rattle.lua_value.specs.Numeral.Numeral.{hexadecimal, decimal}
 use Rattle.lua_token.specs.Bytes.{is_letter, is_digit, is_name_byte, is_of, first_is}
 use Rattle.lua_token.specs.Run.{starts_number, mark_length, number_length}

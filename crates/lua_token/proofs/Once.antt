@@ -1,5 +1,5 @@
 -- At each place one thing stands, and so a source has one answer.
-use Rattle.std.proofs.Common.{◌≡◌, ℕ, zero, suc, ◌+◌, ◌-◌, ◌<◌, ◌≤◌, ℤ, List, [], ◌∷◌, length, take, drop, Option, Some, None, Result, Ok, Err, refl, sym, ap, ◌∙◌, subst, inl, inr, arith, ◌⊎◌}
+use Rattle.std.proofs.Common.{◌≡◌, ℕ, ◌+◌, ◌-◌, ℤ, List, length, drop, Option, Some, None, Result, Ok, Err, refl, sym, ap, ◌∙◌, subst, inl, inr, arith, ◌⊎◌}
 use Rattle.std.specs.Prelude.{slice_index, IfOk, IfErr, All}
 use Rattle.std.specs.List.{AllByRecursion}
 use Rattle.std.specs.Global.{Vec}
@@ -11,14 +11,13 @@ use Rattle.lua_value.specs.Numeral.{IsAnswer}
 use Rattle.lua_value.specs.declared.numeral.NumeralFault.{NumeralFault}
 use Rattle.lua_value.specs.declared.numeral.NumeralFault.TheVariants as numeral
 use Rattle.lua_value.proofs.NumeralLaws.{Denotes-unique}
-use Rattle.lua_token.specs.Long.{level, FirstClosing, LongAt}
+use Rattle.lua_token.specs.Long.{FirstClosing, LongAt}
 use Rattle.lua_token.specs.Quoted.{character_at, Characters, nothing, then_more}
 use Rattle.lua_token.specs.Place.{begins, QuoteEnds, Stands, StandsAt, long_step, comment_step}
 use Rattle.lua_token.specs.Cuts.{line_of, StandsIn, Between, then_blank, then_token, Cuts, Faults}
 use Rattle.lua_token.specs.Answer as answers
 use Rattle.lua_token.specs.declared.fault.LexWhat.{LexWhat}
 use Rattle.lua_token.specs.declared.fault.LexFault.{LexFault}
-use Rattle.lua_token.specs.declared.kind.Kind.{Kind}
 use Rattle.lua_token.specs.declared.quoted.Character.{Character}
 use Rattle.lua_token.specs.declared.quoted.Character.TheVariants.{Byte, Closing, Unfinished, TooLarge}
 use Rattle.lua_token.specs.declared.start.Start.{Start}

@@ -1,9 +1,9 @@
 -- What is known of each keyword and each symbol, and the shapes of spellings.
-use Rattle.std.proofs.Common.{◌≡◌, ℕ, ◌+◌, ◌≤◌, ◌<◌, Bool, true, false, List, [], ◌∷◌, ◌++◌, length, Option, Some, None, refl, sym, ap, ◌∙◌, subst, inl, inr, ◌⊎◌, arith}
-use Rattle.std.specs.Prelude.{◌==◌, ◌||◌, ◌&&◌}
+use Rattle.std.proofs.Common.{◌≡◌, ℕ, ◌≤◌, true, false, List, [], ◌∷◌, ◌++◌, length, Some, refl, sym, subst, inl, inr, ◌⊎◌, arith}
+use Rattle.std.specs.Prelude.{◌==◌, ◌||◌}
 use Rattle.std.specs.List.{AllByRecursion}
-use Rattle.lua_value.specs.Numeral.{Denotes, IsNumeral}
-use Rattle.lua_token.specs.Bytes.{is_letter, is_name_byte, first_is}
+use Rattle.lua_value.specs.Numeral.{IsNumeral}
+use Rattle.lua_token.specs.Bytes.{is_letter, first_is}
 use Rattle.lua_token.specs.Spelling.{spelling, keywords, symbols}
 use Rattle.lua_token.specs.Run.{starts_number}
 use Rattle.lua_token.specs.Long.{level}

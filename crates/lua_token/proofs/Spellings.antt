@@ -1,6 +1,6 @@
 -- Each token is a spelling of its kind, and no longer spelling stands at its place.
-use Rattle.std.proofs.Common.{◌≡◌, ◌≢◌, ℕ, ℤ, suc, ◌+◌, ◌-◌, ◌<◌, ◌≤◌, Bool, true, false, cond, List, [], ◌∷◌, ◌++◌, length, take, drop, Option, Some, None, Result, Ok, Err, refl, sym, ap, ◌∙◌, subst, inl, inr, ◌⊎◌, arith}
-use Rattle.std.specs.Prelude.{◌==◌, ◌||◌, ◌&&◌, find, nat_eq, unwrap_or, slice_index}
+use Rattle.std.proofs.Common.{◌≡◌, ◌≢◌, ℕ, ℤ, suc, ◌+◌, ◌-◌, ◌<◌, ◌≤◌, Bool, true, false, cond, List, [], ◌∷◌, ◌++◌, length, take, drop, Option, Some, None, Result, Ok, Err, refl, sym, ap, ◌∙◌, subst, inl, inr, arith}
+use Rattle.std.specs.Prelude.{◌==◌, ◌||◌, find, nat_eq, unwrap_or}
 use Rattle.std.specs.List.{AllByRecursion, prefix_len, starts_with}
 use Rattle.std.specs.Cmp.Lexicographic.{pointwise}
 use Rattle.std.proofs.lemmas.Slice.Eq.{bytes_eq-Decides}
@@ -8,7 +8,7 @@ use Rattle.std.proofs.lemmas.List.{take_at, take-append-drop, length-take, lengt
 use Rattle.lua_value.specs.Numeral.{IsAnswer, IsNumeral}
 use Rattle.lua_value.specs.declared.numeral.NumeralFault.{NumeralFault}
 use Rattle.lua_value.specs.declared.numeral.NumeralFault.TheVariants as numeral
-use Rattle.lua_token.specs.Bytes.{is_letter, is_digit, is_name_byte, is_of, first_is}
+use Rattle.lua_token.specs.Bytes.{is_letter, is_digit, is_of, first_is}
 use Rattle.lua_token.specs.Spelling.{spelling, keywords, symbols, keyword_of, word_kind, symbol_at}
 use Rattle.lua_token.specs.Run.{starts_number, number_length}
 use Rattle.lua_token.specs.Long.{level, LongAt}
@@ -24,13 +24,13 @@ use Rattle.lua_token.specs.declared.quoted.Character.TheVariants.{Byte, Closing,
 use Rattle.lua_token.specs.declared.start.Start.{Start}
 use Rattle.lua_token.specs.declared.start.Start.TheVariants as starts
 use Rattle.lua_token.specs.declared.step.Step.{Step}
-use Rattle.lua_token.specs.declared.step.Step.TheVariants.{Skip, Found}
-use Rattle.lua_token.proofs.BeginsLemmas.{is_quote, Tells, tells, word_is_some, number_is_some}
-use Rattle.lua_token.proofs.Fronts.{within, all_front, first_take, first_append, level_first, level_some, no_word_number, numeral_starts, numeral_within}
+use Rattle.lua_token.specs.declared.step.Step.TheVariants.{Found}
+use Rattle.lua_token.proofs.BeginsLemmas.{is_quote, tells, word_is_some, number_is_some}
+use Rattle.lua_token.proofs.Fronts.{within, all_front, first_take, first_append, level_first, no_word_number, numeral_starts, numeral_within}
 use Rattle.lua_token.proofs.Once.{characters_once, long_once}
 use Rattle.lua_token.proofs.Shapes.{Member, of_member, Shape, word, symbol, number, quoted, long, shape_of, keywords_spell, symbols_spell, symbols_no_word, symbols_no_quote, symbols_no_number, symbols_no_long, Descends, symbols_descend}
 use Rattle.lua_token.proofs.Symbols.{all_some}
-use Rattle.lua_token.proofs.Values.{long_by, closes, sized}
+use Rattle.lua_token.proofs.Values.{long_by, closes}
 use Rattle.lua_token.specs.Cuts.{StandsIn}
 use Rattle.lua_token.specs.declared.token.Token.{Token}
 use Rattle.std.proofs.lemmas.Bool.{eqb-true}

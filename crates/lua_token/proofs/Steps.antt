@@ -1,11 +1,11 @@
 -- The tokens so far, step by step.
-use Rattle.std.proofs.Common.{cond, ◌≡◌, ℕ, ◌+◌, ◌≤◌, List, [], ◌∷◌, ◌++◌, length, take, drop, Ok, refl, sym, ap, ◌∙◌, subst, arith}
+use Rattle.std.proofs.Common.{cond, ◌≡◌, ℕ, ◌+◌, ◌≤◌, List, ◌++◌, length, take, drop, Ok, refl, ap, ◌∙◌, arith}
 use Rattle.std.specs.Prelude.{count_by, ◌==◌}
-use Rattle.std.proofs.lemmas.List.{append-nil, length-take}
+use Rattle.std.proofs.lemmas.List.{length-take}
 use Rattle.std.proofs.lemmas.List.Sums.{sum_by-append, count_by-le-length}
 use Rattle.std.proofs.Math.Seq.{take-add}
 use Rattle.lua_token.specs.Place.{StandsAt, step_length}
-use Rattle.lua_token.specs.Cuts.{line_of, StandsIn, Between, nothing, then_blank, then_token, tokens_of}
+use Rattle.lua_token.specs.Cuts.{line_of, Between, nothing, then_blank, then_token, tokens_of}
 use Rattle.lua_token.specs.declared.token.Token.{Token}
 use Rattle.lua_token.specs.declared.step.Step.{Step}
 use Rattle.lua_token.specs.declared.step.Step.TheVariants.{Skip, Found}

@@ -1,5 +1,5 @@
 -- The symbol that is found at the front stands there.
-use Rattle.std.proofs.Common.{◌≡◌, ℕ, zero, suc, ◌+◌, ◌<◌, ◌≤◌, Bool, true, false, cond, List, [], ◌∷◌, length, take, Option, Some, None, refl, sym, ap, ◌∙◌, subst, arith}
+use Rattle.std.proofs.Common.{◌≡◌, ℕ, suc, ◌<◌, ◌≤◌, Bool, true, false, cond, List, [], ◌∷◌, length, take, Some, refl, sym, ap, subst, arith}
 use Rattle.std.specs.Prelude.{find, nat_eq, IfSome}
 use Rattle.std.specs.List.{starts_with, AllByRecursion}
 use Rattle.std.specs.Cmp.Lexicographic.{pointwise}

@@ -1,15 +1,14 @@
 -- What a string's token tells of the text that it stands at.
-use Rattle.std.proofs.Common.{◌≡◌, ℕ, ℤ, ◌+◌, ◌-◌, ◌<◌, ◌≤◌, List, [], ◌∷◌, length, take, drop, Option, Some, None, Result, Ok, Err, refl, sym, ap, ◌∙◌, subst, inl, inr, ◌⊎◌, arith}
+use Rattle.std.proofs.Common.{◌≡◌, ℕ, ℤ, ◌+◌, ◌-◌, ◌<◌, List, [], ◌∷◌, length, take, drop, Option, Some, None, Result, Ok, Err, refl, sym, ap, ◌∙◌, subst, inl, inr, ◌⊎◌, arith}
 use Rattle.std.specs.Prelude.{slice_index, unwrap_or, IfOk}
 use Rattle.std.specs.List.{prefix_len}
 use Rattle.std.specs.Global.{Vec}
 use Rattle.lua_token.specs.Bytes.{is_of}
 use Rattle.lua_token.specs.declared.bytes.Class.TheVariants.{InName}
-use Rattle.lua_value.specs.Numeral.{IsAnswer}
 use Rattle.lua_value.specs.declared.numeral.NumeralFault.{NumeralFault}
 use Rattle.lua_value.specs.declared.numeral.NumeralFault.TheVariants as numeral
 use Rattle.lua_token.specs.Long.{FirstClosing}
-use Rattle.lua_token.specs.Quoted.{character_at, Characters, nothing, then_more}
+use Rattle.lua_token.specs.Quoted.{character_at, Characters}
 use Rattle.lua_token.specs.Place.{begins, QuoteEnds, Stands, StandsAt, number_step, symbol_step, comment_step}
 use Rattle.lua_token.specs.Spelling.{spelling, word_kind, keyword_of, symbol_at}
 use Rattle.lua_token.specs.Value.{QuotedBytes, LongBytes, StringBytes, HasValue, long_bytes}
@@ -21,7 +20,7 @@ use Rattle.lua_token.specs.declared.quoted.Character.TheVariants.{Byte, Closing,
 use Rattle.lua_token.specs.declared.start.Start.{Start}
 use Rattle.lua_token.specs.declared.start.Start.TheVariants as starts
 use Rattle.lua_token.specs.declared.step.Step.{Step}
-use Rattle.lua_token.specs.declared.step.Step.TheVariants.{Skip, Found}
+use Rattle.lua_token.specs.declared.step.Step.TheVariants.{Found}
 use Rattle.lua_token.specs.declared.token.Token.{Token}
 use Rattle.lua_token.proofs.Symbols.{kind_fits, keyword_is_some}
 use Rattle.lua_token.proofs.Once.{Ends, characters_once, first_once}

@@ -1,5 +1,5 @@
 -- What the tokens of a source are: its list, or its first fault.
-use Rattle.std.specs.Prelude.{◌≡◌, ℕ, ◌<◌, ◌≤◌, List, [], ◌∷◌, length, Result, Ok, Err, ◌⊎◌}
+use Rattle.std.specs.Prelude.{◌≡◌, ℕ, ◌<◌, ◌≤◌, List, length, Result, Ok, Err, ◌⊎◌}
 use Rattle.std.specs.Global.{Vec}
 use Rattle.lua_token.specs.Cuts.{Cuts, Faults}
 use Rattle.lua_token.specs.declared.token.Token.{Token}

@@ -1,5 +1,5 @@
 -- The tokens of a source, and its first fault.
-use Rattle.std.specs.Prelude.{◌≡◌, ℕ, ◌+◌, ◌<◌, ◌≤◌, List, [], ◌∷◌, drop, take, length, Result, Ok, Err, count_by, ◌==◌}
+use Rattle.std.specs.Prelude.{◌≡◌, ℕ, ◌+◌, ◌≤◌, List, [], ◌∷◌, drop, take, length, Ok, Err, count_by, ◌==◌}
 use Rattle.lua_token.specs.Place.{StandsAt}
 use Rattle.lua_token.specs.declared.token.Token.{Token}
 use Rattle.lua_token.specs.declared.fault.LexFault.{LexFault}

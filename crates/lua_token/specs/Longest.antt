@@ -1,5 +1,5 @@
 -- The spellings of tokens, each in front of what follows it, and the longest one at a place (Lua 5.1 manual, section 2.1).
-use Rattle.std.specs.Prelude.{◌≡◌, ◌≢◌, ℕ, ◌≤◌, Bool, true, List, [], ◌∷◌, ◌++◌, length, drop, Some, ◌==◌, ◌||◌, ◌⊎◌}
+use Rattle.std.specs.Prelude.{◌≡◌, ◌≢◌, ℕ, ◌≤◌, true, List, ◌∷◌, ◌++◌, length, Some, ◌==◌, ◌||◌, ◌⊎◌}
 use Rattle.std.specs.List.{AllByRecursion}
 use Rattle.lua_value.specs.Num.{IsNum}
 use Rattle.lua_value.specs.Numeral.{Denotes}

@@ -1,5 +1,5 @@
 -- Quoted strings (Lua 5.1 manual, section 2.1), one character after the other.
-use Rattle.std.specs.Prelude.{◌≡◌, ℕ, ◌+◌, ◌-◌, ◌*◌, ◌<◌, ◌≤◌, List, [], ◌∷◌, drop, take, length, min, fold, ◌==◌, ◌&&◌, ◌||◌, nat_le, if◌then◌else◌}
+use Rattle.std.specs.Prelude.{◌≡◌, ℕ, ◌+◌, ◌-◌, ◌*◌, ◌<◌, ◌≤◌, List, [], ◌∷◌, drop, take, length, min, fold, ◌==◌, ◌&&◌, nat_le, if◌then◌else◌}
 use Rattle.std.specs.List.{prefix_len}
 use Rattle.lua_token.specs.Bytes.{is_digit, is_of, first_is}
 use Rattle.lua_token.specs.declared.bytes.Class.TheVariants.{Digit}

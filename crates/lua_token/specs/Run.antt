@@ -1,7 +1,7 @@
 -- The run of bytes that is read as one number (Lua 5.1 manual, section 2.1); whether it is a numeral is judged afterwards.
 use Rattle.std.specs.Prelude.{ℕ, ◌+◌, Bool, false, List, [], ◌∷◌, drop, ◌==◌, ◌&&◌, ◌||◌, if◌then◌else◌}
 use Rattle.std.specs.List.{prefix_len}
-use Rattle.lua_token.specs.Bytes.{is_digit, is_name_byte, is_of, first_is}
+use Rattle.lua_token.specs.Bytes.{is_digit, is_of, first_is}
 use Rattle.lua_token.specs.declared.bytes.Class.TheVariants.{DigitOrDot, InName}
 
 -- a number begins with a digit, or with a point and a digit

@@ -1,5 +1,5 @@
 -- Keywords and symbols, and the one spelling of each (Lua 5.1 manual, section 2.1).
-use Rattle.std.specs.Prelude.{◌≡◌, ℕ, List, [], ◌∷◌, codes, Bool, Option, Some, None, nat_eq, find, unwrap_or, length}
+use Rattle.std.specs.Prelude.{ℕ, List, [], ◌∷◌, codes, Option, nat_eq, find, unwrap_or}
 use Rattle.std.specs.List.{starts_with}
 use Rattle.std.specs.Cmp.Lexicographic.{pointwise}
 use Rattle.lua_token.specs.declared.kind.Kind.{Kind}

@@ -1,4 +1,4 @@
-use Rattle.std.proofs.Common.{◌≡◌, drop, Option, Some, ℕ, ◌<◌}
+use Rattle.std.proofs.Common.{◌≡◌, drop, Some, ℕ, ◌<◌}
 use Rattle.lua_token.specs.Long.{level}
 use Rattle.lua_token.proofs.long.first_closing.Given as goal
 

@@ -1,4 +1,4 @@
-use Rattle.std.proofs.Common.{◌≡◌, ◌≤◌, ℕ, take}
+use Rattle.std.proofs.Common.{◌≡◌, ◌≤◌, take}
 use Rattle.lua_token.specs.Quoted.{decimal_value}
 use Rattle.lua_token.proofs.quoted.decimal_value.Given as goal
 

@@ -1,6 +1,6 @@
 use Rattle.std.proofs.Common.{◌≡◌, ◌+◌, ap, ◌++◌, ◌∷◌, [], List, ℕ, sym, subst, drop, get_or, ◌∙◌, arith}
 use Rattle.std.proofs.lemmas.List.{drop-drop}
-use Rattle.lua_token.specs.declared.quoted.Character.TheVariants.{Byte, Closing}
+use Rattle.lua_token.specs.declared.quoted.Character.TheVariants.{Byte}
 use Rattle.lua_token.specs.Quoted.{Characters, character_at, nothing}
 use Rattle.lua_token.proofs.Parts.{rest_is}
 use Rattle.lua_token.proofs.Values.{closing_here}
