@@ -1,4 +1,4 @@
--- Long brackets (Lua 5.1 manual, section 2.1): where they open, and where they close first.
+-- Long brackets (Lua 5.1 manual, section 2.1): where they open, with the byte 91, and where they close first, with 93.
 use Rattle.std.specs.Prelude.{◌≡◌, ◌≢◌, ℕ, ◌+◌, ◌<◌, List, [], ◌∷◌, drop, Option, Some, None, ◌==◌, ◌&&◌, if◌then◌else◌}
 use Rattle.std.specs.List.{prefix_len}
 use Rattle.std.specs.Option.{option_map}

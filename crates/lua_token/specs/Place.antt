@@ -1,4 +1,5 @@
--- What stands at a place of a source: a blank or a comment, a token, or a fault.
+-- What stands at a place of a source: a blank or a comment, a token, or a fault (Lua 5.1 manual, section 2.1). Bytes are
+-- written as numbers: 34 and 39 are the quotes, 45 is the dash, 91 and 93 are the brackets.
 use Rattle.std.specs.Prelude.{◌≡◌, ℕ, ◌+◌, ◌-◌, ◌<◌, ◌≤◌, ℤ, List, [], ◌∷◌, drop, take, length, Option, Some, None, Result, Ok, Err, slice_index, ◌==◌, ◌&&◌, ◌||◌, ◌⊎◌, if◌then◌else◌}
 use Rattle.std.specs.List.{prefix_len}
 use Rattle.lua_value.specs.Numeral.{IsAnswer}
@@ -63,7 +64,9 @@ abbrev pub symbol_step : Option Kind → Result Step LexWhat
 symbol_step (Some kind) = Ok (Found kind (length (spelling kind)))
 symbol_step None = Err BadByte
 
--- what is found at the front of a text that begins so
+-- What is found at the front of a text that begins so. A word is the longest run of its bytes; a number is its whole run,
+-- which is judged then; a quoted string ends at the first character that is no byte; a comment is long where a long
+-- bracket opens behind its dashes, and else goes to the end of its line; a symbol is the longest that stands there.
 abbrev pub Stands : Start → List ℕ → Result Step LexWhat → Type 0
 Stands starts.Nothing text found = ⊥
 Stands starts.Blank text found = found ≡ Ok (Skip 1)

@@ -1,4 +1,5 @@
--- Quoted strings (Lua 5.1 manual, section 2.1), one character after the other.
+-- Quoted strings (Lua 5.1 manual, section 2.1), one character after the other. 92 is the backslash, 10 the newline and
+-- 13 the return.
 use Rattle.std.specs.Prelude.{◌≡◌, ℕ, ◌+◌, ◌-◌, ◌*◌, ◌<◌, ◌≤◌, List, [], ◌∷◌, drop, take, length, min, fold, ◌==◌, ◌&&◌, nat_le, if◌then◌else◌}
 use Rattle.std.specs.List.{prefix_len}
 use Rattle.lua_token.specs.Bytes.{is_digit, is_of, first_is}
@@ -26,7 +27,7 @@ decimal_value digits = fold (λ n d. 10 * n + (d - 48)) 0 digits
 abbrev pub escape_digits : List ℕ → List ℕ
 escape_digits text = take (min 3 (prefix_len (is_of Digit) text)) text
 
--- a decimal escape, which its digits follow a backslash: a byte, or a number over 255
+-- a decimal escape with these digits: a byte, or a number over 255
 abbrev pub decimal_escape : List ℕ → Character
 decimal_escape digits =
     if nat_le (decimal_value digits) 255 then Byte (decimal_value digits) (1 + length digits) else TooLarge

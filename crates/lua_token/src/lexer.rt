@@ -39,7 +39,15 @@ fn put(tokens: &mut Vec<Token>, step: &Step, start: usize, line: usize) -> Resul
     Ok(())
 }
 
-/// The tokens of a source (Lua 5.1 manual §2.1), in order.
+/// The tokens of a source (Lua 5.1 manual §2.1), in order. Places are offsets in bytes, from 0 on, and lines count from
+/// 1.
+///
+/// Takes time in proportion to the source, whatever it holds, and room for its tokens.
+///
+/// # Errors
+///
+/// The first fault of the source: that of the first place that is no blank, comment or token, with the line of that
+/// place. A source of over 16,777,216 bytes is too long, which is tested first.
 pub fn tokens(alloc: Global, source: &[u8]) -> Result<Vec<Token>, LexFault>
     ensures found { IfOk result (λ tokens. IsAnswer source.now (Ok tokens.items)) }
     ensures fault { IfErr result (λ fault. (fault ≡ no_memory) ⊎ IsAnswer source.now (Err fault)) }

@@ -1,4 +1,9 @@
-//! The tokens of Lua 5.1.
+//! The tokens of a Lua 5.1 source (manual §2.1): the one list that it is cut into, or its first fault.
+//!
+//! [`tokens`] cuts a source, and [`string_value`] gives the bytes of a string's token. Contracts see a source as the list
+//! of its bytes and speak of what stands at each place of it; that there is one answer for each source, and that a token
+//! is the longest spelling at its place, are laws: [`one_list`], [`one_fault`], [`list_or_fault`], [`one_value`] and
+//! [`longest`].
 #![tactic(auto)]
 
 mod bytes;
