@@ -1,0 +1,10 @@
+pub mod BeginsLemmas
+pub mod Symbols
+pub mod Strings
+pub mod Parts
+pub mod Steps
+pub mod Once
+pub mod Values
+pub mod Shapes
+pub mod Fronts
+pub mod Spellings

@@ -1,0 +1,15 @@
+use Rattle.std.proofs.Common.{sym}
+use Rattle.lua_token.proofs.BeginsLemmas.{is_something, word_is_some, number_is_some, comment_is_two}
+use Rattle.lua_token.proofs.step.step_at.Goals as goal
+
+pub unreachable-requires : goal.unreachable-requires
+unreachable-requires c = is_something c.args.text.now (sym c.in-Nothing.ensures.value) c.requires
+
+pub word-requires : goal.word-requires
+word-requires c = word_is_some c.args.text.now (sym c.in-Word.ensures.value)
+
+pub number-requires : goal.number-requires
+number-requires c = number_is_some c.args.text.now (sym c.in-Digits.ensures.value)
+
+pub comment-requires : goal.comment-requires
+comment-requires c = comment_is_two c.args.text.now (sym c.in-Comment.ensures.value)

@@ -1,0 +1,10 @@
+pub mod Bytes
+pub mod Spelling
+pub mod Run
+pub mod Long
+pub mod Quoted
+pub mod Place
+pub mod Cuts
+pub mod Answer
+pub mod Value
+pub mod Longest
