@@ -1,0 +1,9 @@
+//! Tables of Lua: places in the order in which their keys first got a value, and the least border.
+#![tactic(auto)]
+
+mod places;
+mod position;
+mod table;
+
+pub use position::Position;
+pub use table::{NoSuchKey, Table};
