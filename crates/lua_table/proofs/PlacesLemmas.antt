@@ -1,5 +1,5 @@
 -- What the definitions of a table say in the words of the map that holds its places.
-use Rattle.std.proofs.Common.{◌≡◌, ℕ, zero, suc, ◌+◌, ◌<◌, ◌≤◌, Bool, true, false, cond, not, List, [], ◌∷◌, length, drop, Option, None, Some, Result, Ok, Err, refl, sym, ap, ◌∙◌, slice_get, is_some, arith, if◌then◌else◌}
+use Rattle.std.proofs.Common.{◌≡◌, ℕ, zero, suc, ◌+◌, ◌<◌, Bool, true, false, cond, not, [], ◌∷◌, length, drop, Option, None, Some, Ok, Err, refl, sym, ap, ◌∙◌, slice_get, is_some, arith}
 use Rattle.std.specs.List.{position_or_len, position}
 use Rattle.std.specs.Map.{keys_of, lookup, set_value}
 use Rattle.std.specs.Option.{option_flatten, option_map_or}

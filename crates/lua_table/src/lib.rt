@@ -4,6 +4,8 @@
 mod places;
 mod position;
 mod table;
+#[cfg(test)]
+mod tests;
 
 pub use position::Position;
 pub use table::{NoSuchKey, Table};

@@ -1,4 +1,4 @@
-use Rattle.std.proofs.Common.{◌+◌, arith, sym, ◌∙◌, ap, is_some}
+use Rattle.std.proofs.Common.{◌+◌, arith, sym}
 use Rattle.lua_table.proofs.BorderLemmas.{Lawful, IsFilledTo-le, IsFilledTo-next, value_there}
 use Rattle.lua_table.specs.Table.{get}
 use Rattle.lua_table.proofs.places.border_from.Goals as goal

@@ -1,5 +1,4 @@
-use Rattle.std.proofs.Common.{◌≡◌, sym, ◌∙◌, ap, None, arith}
-use Rattle.std.specs.Map.{lookup}
+use Rattle.std.proofs.Common.{sym, arith}
 use Rattle.lua_table.proofs.PlacesLemmas.{next_after-absent, next_after-position, none_from_position}
 use Rattle.lua_table.proofs.places.index_behind.Goals as goal
 

@@ -1,4 +1,4 @@
-use Rattle.std.proofs.Common.{◌≡◌, sym, ◌∙◌, ap, is_some}
+use Rattle.std.proofs.Common.{sym, ◌∙◌, ap, is_some}
 use Rattle.lua_table.proofs.PlacesLemmas.{has_place-lookup, set-insert_entry}
 use Rattle.lua_table.proofs.places.set_place.Goals as goal
 

@@ -1,4 +1,4 @@
-use Rattle.std.proofs.Common.{◌≡◌, sym, ◌∙◌, ap}
+use Rattle.std.proofs.Common.{sym}
 use Rattle.lua_table.proofs.BorderLemmas.{Lawful, IsFilledTo-le, border-IsLeastBorder}
 use Rattle.lua_table.proofs.table.Table.border.Goals as goal
 

@@ -1,4 +1,4 @@
-use Rattle.std.proofs.Common.{◌≡◌, ℕ, ◌<◌, ◌≤◌, Some, None, sym, ◌∙◌, ap, arith, subst}
+use Rattle.std.proofs.Common.{◌≡◌, ℕ, ◌<◌, Some, sym, ◌∙◌, arith}
 use Rattle.std.proofs.lemmas.Option.{none-some, same_Some}
 use Rattle.lua_table.proofs.BorderLemmas.{Lawful, one-le-number, IsLeastBorder-clear_key-behind, IsLeastBorder-clear_key-within}
 use Rattle.lua_table.proofs.table.Table.clear_key.Goals as goal

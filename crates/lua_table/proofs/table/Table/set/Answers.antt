@@ -1,4 +1,4 @@
-use Rattle.std.proofs.Common.{◌≡◌, ◌+◌, ◌-◌, Some, sym, ◌∙◌, ap, arith}
+use Rattle.std.proofs.Common.{◌≡◌, ◌+◌, Some, sym, ◌∙◌, ap, arith}
 use Rattle.std.proofs.lemmas.Option.{none-some, same_Some}
 use Rattle.lua_table.proofs.BorderLemmas.{Lawful, one-le-number, IsFilledTo-set-next, IsLeastBorder-set-other}
 use Rattle.lua_table.proofs.table.Table.set.Goals as goal
