@@ -3,8 +3,7 @@ use crate::key::Whole;
 use anyhow::{Result, anyhow, ensure};
 use lua_table::Table;
 use std::alloc::Global;
-use std::rt::Clock;
-use std::time::Instant;
+use std::time::CpuClock;
 
 #[derive(Clone, Copy, Debug)]
 pub enum Phase {
@@ -19,19 +18,19 @@ pub enum Phase {
 }
 
 /// How long a phase takes at so many keys, in nanoseconds.
-pub fn time(rt: &impl Clock, alloc: Global, phase: Phase, keys: u64) -> Result<u128> {
+pub fn time(rt: &impl CpuClock, alloc: Global, phase: Phase, keys: u64) -> Result<u128> {
     let mut table = Table::new(alloc);
     if matches!(phase, Phase::Read | Phase::Walk) {
         fill(&mut table, keys)?;
     }
-    let start = Instant::now(rt)?;
+    let start = rt.thread_cpu_time()?;
     let count = match phase {
         Phase::Fill => fill(&mut table, keys)?,
         Phase::Read => read(&table, keys),
         Phase::Walk => walk(&table, keys),
         Phase::Append => append(&mut table, keys)?,
     };
-    let taken = start.elapsed(rt)?.as_nanos();
+    let taken = rt.thread_cpu_time()?.saturating_sub(start).as_nanos();
     ensure!(count == keys && table.border() == keys, "{phase:?} missed keys");
     Ok(taken)
 }

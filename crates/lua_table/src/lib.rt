@@ -1,6 +1,7 @@
 //! Tables of Lua: places in the order in which their keys first got a value, and the least border.
 #![tactic(auto)]
 
+mod key_hasher;
 mod places;
 mod position;
 mod table;

@@ -6,12 +6,13 @@ ghost use Rattle.indexmap.specs.IndexMap.{index_map_len, IsUnique};
 ghost use Rattle.lua_table.specs.Table.{first, get, set, clear_key, has_place, next_after, no_such_key, IsFilledTo, IsLeastBorder};
 
 use crate::Position;
+use crate::key_hasher::KeyHasher;
 use indexmap::IndexMap;
 use love_base::Memory;
-use std::hash::Hash;
+use std::hash::{BuildHasherDefault, Hash};
 
 /// The places of a table: each key with its value, or with none where it was cleared.
-pub(crate) type Places<K, V> = IndexMap<K, Option<V>>;
+pub(crate) type Places<K, V> = IndexMap<K, Option<V>, BuildHasherDefault<KeyHasher>>;
 
 /// The value of a key, where it has one.
 pub(crate) fn value_of<'a, K: Position + Hash, V>(

@@ -14,7 +14,7 @@ use crate::places::{
 use indexmap::IndexMap;
 use love_base::Memory;
 use std::alloc::Global;
-use std::hash::Hash;
+use std::hash::{BuildHasherDefault, Hash};
 use std::marker::Model;
 
 /// The refusal of [`Table::next`]: the key was never set.
@@ -44,7 +44,7 @@ impl<K: Position + Hash + Drop, V: Drop> Table<K, V> {
         ensures { result ≡ [] }
     {
         Table {
-            places: IndexMap::new(alloc),
+            places: IndexMap::with_hasher(alloc, BuildHasherDefault::new()),
             border: 0,
         }
     }
