@@ -1,2 +1,3 @@
 pub mod Content
 mod Distinct
+mod Parts

@@ -2,7 +2,9 @@
 //! stamp of an entry, and the traits through which the runtime meets the world outside.
 #![tactic(auto)]
 
+mod channel_no;
 mod count_sink;
+mod data;
 mod file_table;
 mod folder;
 mod folder_walk;
@@ -19,7 +21,9 @@ mod stamp;
 mod text;
 mod text_order;
 
+pub use channel_no::ChannelNo;
 pub use count_sink::CountSink;
+pub use data::Data;
 pub use folder::{Folder, FolderErr};
 pub use list::List;
 pub use mem_folder::MemFolder;

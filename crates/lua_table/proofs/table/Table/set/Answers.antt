@@ -1,0 +1,38 @@
+use Rattle.std.proofs.Common.{◌≡◌, ◌+◌, Some, sym, ◌∙◌, ap, arith}
+use Rattle.std.proofs.lemmas.Option.{none-some, same_Some}
+use Rattle.lua_table.proofs.BorderLemmas.{Lawful, one-le-number, IsFilledTo-set-next, IsLeastBorder-set-other}
+use Rattle.lua_table.proofs.table.Table.set.Goals as goal
+
+pub overflow_sub-n : goal.overflow_sub-n
+overflow_sub-n g c =
+    let lawful : Lawful g.K.PartialEq.eq g.K.Position.at_position g.K.Position.position_of =
+    record { equivalence = g.met.K.Eq.laws; alike = g.met.K.Position.equal_is_same; inverse = g.met.K.Position.inverse } in
+    one-le-number _ lawful g.met.K.Position.numbered c.args.key c.in-Some.n (sym c.in-Some.ensures)
+
+pub border_from-self-inside-requires : goal.border_from-self-inside-requires
+border_from-self-inside-requires g c =
+    let lawful : Lawful g.K.PartialEq.eq g.K.Position.at_position g.K.Position.position_of =
+    record { equivalence = g.met.K.Eq.laws; alike = g.met.K.Position.equal_is_same; inverse = g.met.K.Position.inverse } in
+    let low = one-le-number _ lawful g.met.K.Position.numbered c.args.key c.in-Some.n (sym c.in-Some.ensures) in
+    let next : c.in-Some.n ≡ c.self.inside.border + 1 = omega (arith, low, c.if-n-self.true) in
+    let own : g.K.Position.position_of c.args.key ≡ Some (c.self.inside.border + 1) = sym c.in-Some.ensures ∙ ap (λ n. Some n) next in
+    rw (c.in_ok-set_place.ensures.ok, next)
+    (IsFilledTo-set-next lawful c.self.inside.places.entries c.args.key c.args.value c.self.inside.border c.self.invariant own)
+
+pub invariant_of-self-else-n-self : goal.invariant_of-self-else-n-self
+invariant_of-self-else-n-self g c =
+    let lawful : Lawful g.K.PartialEq.eq g.K.Position.at_position g.K.Position.position_of =
+    record { equivalence = g.met.K.Eq.laws; alike = g.met.K.Position.equal_is_same; inverse = g.met.K.Position.inverse } in
+    let apart : g.K.Position.position_of c.args.key ≡ Some (c.self.inside.border + 1) → ⊥ =
+    λ own. c.if-n-self.false (let same : c.in-Some.n ≡ c.self.inside.border + 1 = same_Some _ _ (c.in-Some.ensures ∙ own) in omega arith) in
+    rw c.in_ok-set_place.ensures.ok
+    (IsLeastBorder-set-other lawful c.self.inside.places.entries c.args.key c.args.value c.self.inside.border c.self.invariant apart)
+
+pub invariant_of-self-in-None : goal.invariant_of-self-in-None
+invariant_of-self-in-None g c =
+    let lawful : Lawful g.K.PartialEq.eq g.K.Position.at_position g.K.Position.position_of =
+    record { equivalence = g.met.K.Eq.laws; alike = g.met.K.Position.equal_is_same; inverse = g.met.K.Position.inverse } in
+    let apart : g.K.Position.position_of c.args.key ≡ Some (c.self.inside.border + 1) → ⊥ =
+    λ own. none-some (c.self.inside.border + 1) (c.in-None.ensures ∙ own) in
+    rw c.in_ok-set_place.ensures.ok
+    (IsLeastBorder-set-other lawful c.self.inside.places.entries c.args.key c.args.value c.self.inside.border c.self.invariant apart)

@@ -1,0 +1,115 @@
+//! The table.
+ghost use Rattle.std.specs.Prelude.{◌≡◌, ℕ, ◌≤◌, ◌↔◌, [], OnOk, OnErr, IfOk, IsOk, IsErr, IsNone, IsTrue, IsSome};
+ghost use Rattle.std.specs.List.{IsDistinct};
+ghost use Rattle.std.specs.Map.{keys_of};
+ghost use Rattle.std.specs.Map.Iter.{deref_pair};
+ghost use Rattle.std.specs.Option.{option_copied, option_map};
+ghost use Rattle.lua_table.specs.Table as table;
+ghost use Rattle.lua_table.specs.Table.{IsLeastBorder};
+
+use crate::Position;
+use crate::places::{
+    Places, border_from, clear_place, first_from, index_behind, set_place, value_of,
+};
+use indexmap::IndexMap;
+use love_base::Memory;
+use std::alloc::Global;
+use std::hash::{BuildHasherDefault, Hash};
+use std::marker::Model;
+
+/// The refusal of [`Table::next`]: the key was never set.
+#[derive(Clone, Copy, Debug, PartialEq, Eq)]
+pub struct NoSuchKey;
+
+/// A Lua table (Lua 5.1 manual §2.2) without its metatable.
+#[derive(Drop)]
+pub struct Table<K: Position + Hash, V> {
+    places: Places<K, V>,
+    border: u64,
+}
+
+impl<K: Position + Hash, V> Model for Table<K, V> {
+    ghost use Rattle.lua_table.specs.Table.{Places, IsLeastBorder};
+
+    ghost Value = { Places K V };
+
+    ghost view = { λ t. t.places.entries };
+
+    ghost invariant = { λ t. IsLeastBorder K.eq K.at_position t.places.entries t.border };
+}
+
+impl<K: Position + Hash + Drop, V: Drop> Table<K, V> {
+    /// A table without keys. Takes no memory.
+    pub fn new(alloc: Global) -> Self
+        ensures { result ≡ [] }
+    {
+        Table {
+            places: IndexMap::with_hasher(alloc, BuildHasherDefault::new()),
+            border: 0,
+        }
+    }
+
+    /// The value of `key`; `None` where it has none. Takes no memory, expected constant time.
+    pub fn get(&self, key: &K) -> Option<&V>
+        ensures { option_copied result ≡ table.get K.eq self.now key.now }
+    {
+        value_of(&self.places, key)
+    }
+
+    /// Gives `key` a value. A key that was set before keeps its place and takes no memory, a new one goes last.
+    ///
+    /// Expected constant time; where this closes the first gap, the time also grows with the values right behind it.
+    pub fn set(&mut self, key: K, value: V) -> Result<(), Memory>
+        ensures ok { OnOk result (self.new ≡ table.set K.eq self.old key value) }
+        ensures refused { OnErr result (self.new ≡ self.old) }
+        ensures placed { IsTrue (table.has_place K.eq self.old key) → IsOk result }
+        ensures distinct { IsDistinct K.eq (keys_of self.new) }
+    {
+        let position = key.position();
+        set_place(&mut self.places, key, value)?;
+        match position {
+            Some(n) if n - 1 == self.border => self.border = border_from(&self.places, n),
+            Some(_) => {}
+            None => {}
+        }
+        Ok(())
+    }
+
+    /// Takes the value of `key` away, if it has one. The key keeps its place. Takes no memory, expected constant time.
+    pub fn clear_key(&mut self, key: &K)
+        ensures cleared { self.new ≡ table.clear_key K.eq self.old key.now }
+        ensures distinct { IsDistinct K.eq (keys_of self.new) }
+    {
+        clear_place(&mut self.places, key);
+        match key.position() {
+            Some(n) if n <= self.border => self.border = n - 1,
+            Some(_) => {}
+            None => {}
+        }
+    }
+
+    /// The first pair with a value, or the first one after the place of a key (Lua 5.1 manual §5.1, `next`).
+    ///
+    /// Takes no memory. Expected constant time, and time in the count of the cleared places that it passes.
+    ///
+    /// # Errors
+    /// [`NoSuchKey`] where the key was never set.
+    pub fn next(&self, after: Option<&K>) -> Result<Option<(&K, &V)>, NoSuchKey>
+        ensures pair { IfOk result (λ pair. table.next K.eq self.now (option_copied after.entry) ≡ Ok (option_map deref_pair pair)) }
+        ensures unknown { IsErr result ↔ (table.next K.eq self.now (option_copied after.entry) ≡ Err table.no_such_key) }
+    {
+        let start = match after {
+            None => 0,
+            Some(key) => index_behind(&self.places, key).ok_or(NoSuchKey)?,
+        };
+        Ok(first_from(&self.places, start))
+    }
+
+    /// The least border (Lua 5.1 manual §2.5.5). Takes no memory, constant time.
+    pub fn border(&self) -> u64
+        ensures border { result ≡ table.border K.eq K.at_position self.now }
+        ensures least { IsLeastBorder K.eq K.at_position self.now result }
+    {
+        self.border
+    }
+}
