@@ -1,5 +1,6 @@
 pub mod Forms
 pub mod Loading
+pub mod OneFile
 pub mod Order
 pub mod Reading
 pub mod Running

@@ -27,17 +27,17 @@ tells_same h sent received tells = rw (append-nil h, append-nil sent, append-nil
 
 tells_put : (h : List Entry) (line : ℕ) (message : Variant) (sent received : List Variant) → Tells h sent received → Tells (h ++ put_by (caller line) message ∷ []) (sent ++ message ∷ []) (received ++ [])
 tells_put h line message sent received tells = record {
-    sends = sent_messages-put h (caller line) message ∙ ap (λ s. s ++ message ∷ []) tells.sends;
-    receives = received_messages-put h (caller line) message ∙ tells.receives ∙ sym (append-nil received);
-    finds = AtEach-push _ h (put_by (caller line) message) tells.finds tt;
-  }
+  sends = sent_messages-put h (caller line) message ∙ ap (λ s. s ++ message ∷ []) tells.sends;
+  receives = received_messages-put h (caller line) message ∙ tells.receives ∙ sym (append-nil received);
+  finds = AtEach-push _ h (put_by (caller line) message) tells.finds tt;
+}
 
 tells_take : (h : List Entry) (line : ℕ) (message : Variant) (sent received : List Variant) → front h ≡ Some message → Tells h sent received → Tells (h ++ take_by (caller line) ∷ []) (sent ++ []) (received ++ message ∷ [])
 tells_take h line message sent received first tells = record {
-    sends = sent_messages-take h (caller line) ∙ tells.sends ∙ sym (append-nil sent);
-    receives = received_messages-take h (caller line) message first ∙ ap (λ r. r ++ message ∷ []) tells.receives;
-    finds = AtEach-push _ h (take_by (caller line)) tells.finds (front-waits h message (sym first));
-  }
+  sends = sent_messages-take h (caller line) ∙ tells.sends ∙ sym (append-nil sent);
+  receives = received_messages-take h (caller line) message first ∙ ap (λ r. r ++ message ∷ []) tells.receives;
+  finds = AtEach-push _ h (take_by (caller line)) tells.finds (front-waits h message (sym first));
+}
 
 tells_answer : (h : List Entry) (line : ℕ) (answer : Option Variant) (sent received : List Variant) → front h ≡ answer → Tells h sent received → Tells (h ++ popped_entry (caller line) answer) (sent ++ []) (received ++ option_to_list answer)
 tells_answer h line None sent received first tells = tells_same h sent received tells
@@ -62,9 +62,11 @@ tells_lines : (line : ℕ) (h : List Entry) (statements : List Statement) (sent 
 tells_lines line h [] sent received tells = rw (append-nil sent, append-nil received) tells
 tells_lines line h (statement ∷ statements) sent received tells =
     let rest = tells_lines (line + 1) (h ++ added line h statement) statements (sent ++ option_to_list (pushed_by statement)) (received ++ popped_by h statement) (tells_line h line statement sent received tells) in
-    rw (pushed_next statement statements,
-        ← append_assoc sent (option_to_list (pushed_by statement)) (filter_map pushed_by statements),
-        ← append_assoc received (popped_by h statement) (popped_from (line + 1) (h ++ added line h statement) statements)) rest
+    rw (
+      pushed_next statement statements,
+      ← append_assoc sent (option_to_list (pushed_by statement)) (filter_map pushed_by statements),
+      ← append_assoc received (popped_by h statement) (popped_from (line + 1) (h ++ added line h statement) statements),
+    ) rest
 
 -- what a program pushes is what it pops, in that order, and then what waits
 pushed_in_order : (program : List Statement) → pushed program ≡ popped program ++ queue (history program)
@@ -85,7 +87,8 @@ rest_empty xs (y ∷ ys) is =
 -- no message waits exactly where all that were pushed were popped
 pub drained : (before : List Statement) → (front (history before) ≡ None) ↔ (popped before ≡ pushed before)
 drained before = (
-    (λ none. sym (pushed_in_order before ∙ ap (λ waiting. popped before ++ waiting) (front-none (history before) none) ∙ append-nil (popped before))),
-    (λ all.
+  (λ none. sym (pushed_in_order before ∙ ap (λ waiting. popped before ++ waiting) (front-none (history before) none) ∙ append-nil (popped before))),
+  (λ all.
       let waiting : queue (history before) ≡ [] = rest_empty (popped before) (queue (history before)) (all ∙ pushed_in_order before) in
-      ap (λ q. slice_get q 0) waiting))
+      ap (λ q. slice_get q 0) waiting),
+)

@@ -5,7 +5,9 @@ use love_base::Text;
 
 // The folder that the words name, where they are those of the command.
 pub fn folder_of(words: &[Text]) -> Option<&Text>
-    ensures { MatchOption result (¬ IsCommand words.now) (λ word. (words.now ≡ word.now ∷ []) × IsFolderWord word.now) }
+    ensures { MatchOption result
+        (¬ IsCommand words.now)
+        (λ word. (words.now ≡ word.now ∷ []) × IsFolderWord word.now) }
 {
     match words {
         [word] if is_folder_word(word.bytes()) => Some(word),

@@ -66,7 +66,8 @@ pub fn load<F: Folder>(
     at: &Text,
     folder: &mut F,
 ) -> Result<Vec<Statement>, LoadFault>
-    ensures program { IfOk result (λ statements. IfSome (F.files folder.old) (λ files. HasProgram files statements.items)) }
+    ensures program { IfOk result (λ statements.
+        IfSome (F.files folder.old) (λ files. HasProgram files statements.items)) }
     ensures few { IfOk result (λ statements. length statements.items < entry_limit) }
     ensures no_main { IsErrOf result LoadFault.NoMain → IfSome (F.files folder.old) HasNoMain }
     ensures out_of_form { IsErrOf result LoadFault.OutOfForm → IfSome (F.files folder.old) HasOtherForm }

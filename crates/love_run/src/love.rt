@@ -3,10 +3,10 @@ ghost use Rattle.std.specs.Option.{option_map};
 ghost use Rattle.love_base.specs.Fault.{HasRisen};
 ghost use Rattle.love_base.specs.Prefix.{IsPrefix};
 ghost use Rattle.channel_core.specs.History.{front};
-ghost use Rattle.love_run.specs.Run.{history, popped, pushed};
+ghost use Rattle.channel_core.specs.Lawful.{entry_limit};
 ghost use Rattle.love_run.specs.Command.{IsCommand};
 ghost use Rattle.love_run.specs.Outcome.{end_status, HasNoMain, HasOtherForm, HasProgram, IsStatus, RanInPart, RanNothing, RanWhole, SaysNothingRan, SaysRanWhole};
-ghost use Rattle.channel_core.specs.Lawful.{entry_limit};
+ghost use Rattle.love_run.specs.Run.{history, popped, pushed};
 ghost use Rattle.love_run.specs.declared.statement.Statement.{Statement};
 
 use crate::command::folder_of;
@@ -34,28 +34,43 @@ pub fn love<F: Folder, S: Sink>(
     ensures status { IsStatus result.status }
     ensures usage { (result.status ≡ USAGE) ↔ ¬ IsCommand words.now }
     ensures no_main { result.status ≡ NO_MAIN → IfSome (F.files folder.old) HasNoMain }
-    ensures folder_fault { result.status ≡ UNREADABLE → HasRisen (F.faults folder.old) (F.faults folder.new) }
-    ensures output_fault { result.status ≡ UNWRITTEN → HasRisen (S.faults sink.old) (S.faults sink.new) }
+    ensures folder_fault { result.status ≡ UNREADABLE
+        → HasRisen (F.faults folder.old) (F.faults folder.new) }
+    ensures output_fault { result.status ≡ UNWRITTEN
+        → HasRisen (S.faults sink.old) (S.faults sink.new) }
     ensures out_of_form { result.status ≡ OUT_OF_FORM → IfSome (F.files folder.old) HasOtherForm }
 
     // What was printed, and what became of the Channel.
-    ensures ran_whole { SaysRanWhole result.status → IfSome (F.files folder.old) (λ files. (program : List Statement) × HasProgram files program × RanWhole program result.out result.channels) }
-    ensures ran_in_part { result.status ≡ OUT_OF_MEMORY → IfSome (F.files folder.old) (λ files. RanNothing result.out result.channels ⊎ ((program : List Statement) × HasProgram files program × RanInPart program result.out result.channels)) }
+    ensures ran_whole { SaysRanWhole result.status
+        → IfSome (F.files folder.old) (λ files.
+        (program : List Statement) × HasProgram files program
+        × RanWhole program result.out result.channels) }
+    ensures ran_in_part { result.status ≡ OUT_OF_MEMORY
+        → IfSome (F.files folder.old) (λ files. RanNothing result.out result.channels
+        ⊎ ((program : List Statement) × HasProgram files program
+        × RanInPart program result.out result.channels)) }
     ensures ran_nothing { SaysNothingRan result.status → RanNothing result.out result.channels }
 
     // What was written.
-    ensures written { result.status ≡ DONE → S.taken sink.new ≡ option_map (λ before. before ++ result.out) (S.taken sink.old) }
-    ensures written_in_part { (sent : List ℕ) × IsPrefix sent result.out × (S.taken sink.new ≡ option_map (λ before. before ++ sent) (S.taken sink.old)) }
+    ensures written { result.status ≡ DONE
+        → S.taken sink.new ≡ option_map (λ before. before ++ result.out) (S.taken sink.old) }
+    ensures written_in_part { (sent : List ℕ) × IsPrefix sent result.out
+        × (S.taken sink.new ≡ option_map (λ before. before ++ sent) (S.taken sink.old)) }
     ensures wrote_nothing { SaysNothingRan result.status → S.taken sink.new ≡ S.taken sink.old }
 
     // Where no fault happens and the game has the form that is read, it runs and all is written.
-    ensures complete { IsCommand words.now → ¬ HasRisen (F.faults folder.old) (F.faults folder.new) → ¬ HasRisen (S.faults sink.old) (S.faults sink.new)
-        → IfSome (F.files folder.old) (λ files. (program : List Statement) → HasProgram files program → (result.status ≡ DONE) ⊎ (result.status ≡ OUT_OF_MEMORY)) }
+    ensures complete { IsCommand words.now
+        → ¬ HasRisen (F.faults folder.old) (F.faults folder.new)
+        → ¬ HasRisen (S.faults sink.old) (S.faults sink.new)
+        → IfSome (F.files folder.old) (λ files.
+        (program : List Statement) → HasProgram files program
+        → (result.status ≡ DONE) ⊎ (result.status ≡ OUT_OF_MEMORY)) }
 
     // Of any program: it pops the first messages that it pushed, in that order; and a pop gives `nil`
     // exactly where all that were pushed before it were popped.
     ensures first_in_first_out { (program : List Statement) → IsPrefix (popped program) (pushed program) }
-    ensures nil_where_drained { (before : List Statement) → (front (history before) ≡ None) ↔ (popped before ≡ pushed before) }
+    ensures nil_where_drained { (before : List Statement)
+        → (front (history before) ≡ None) ↔ (popped before ≡ pushed before) }
 
     // What stays as it was.
     ensures kept { F.files folder.new ≡ F.files folder.old }
@@ -76,9 +91,12 @@ fn play<S: Sink>(alloc: Global, program: &[Statement], sink: &mut S) -> Report
     ensures status { (result.status ≡ DONE) ⊎ (result.status ≡ UNWRITTEN) ⊎ (result.status ≡ OUT_OF_MEMORY) }
     ensures failed { result.status ≡ UNWRITTEN → HasRisen (S.faults sink.old) (S.faults sink.new) }
     ensures ran_whole { SaysRanWhole result.status → RanWhole program.now result.out result.channels }
-    ensures ran_in_part { result.status ≡ OUT_OF_MEMORY → RanNothing result.out result.channels ⊎ RanInPart program.now result.out result.channels }
-    ensures written { result.status ≡ DONE → S.taken sink.new ≡ option_map (λ before. before ++ result.out) (S.taken sink.old) }
-    ensures written_in_part { (sent : List ℕ) × IsPrefix sent result.out × (S.taken sink.new ≡ option_map (λ before. before ++ sent) (S.taken sink.old)) }
+    ensures ran_in_part { result.status ≡ OUT_OF_MEMORY
+        → RanNothing result.out result.channels ⊎ RanInPart program.now result.out result.channels }
+    ensures written { result.status ≡ DONE
+        → S.taken sink.new ≡ option_map (λ before. before ++ result.out) (S.taken sink.old) }
+    ensures written_in_part { (sent : List ℕ) × IsPrefix sent result.out
+        × (S.taken sink.new ≡ option_map (λ before. before ++ sent) (S.taken sink.old)) }
 {
     let Ok(mut channels) = Vec::with_capacity(alloc, 1) else {
         return Report::unbegun(alloc, OUT_OF_MEMORY);

@@ -69,7 +69,8 @@ pub fn read_program(alloc: Global, source: &[u8]) -> Result<Vec<Statement>, Read
 
 fn read_lines(alloc: Global, source: &[u8]) -> Result<Vec<Statement>, ReadFault>
     ensures program { IfOk result (λ statements. SpellsEach statements.items (lines source.now)) }
-    ensures out_of_form { IsErrOf result ReadFault.OutOfForm → (statements : List Statement) → ¬ SpellsEach statements (lines source.now) }
+    ensures out_of_form { IsErrOf result ReadFault.OutOfForm
+        → (statements : List Statement) → ¬ SpellsEach statements (lines source.now) }
 {
     let mut statements = Vec::new(alloc);
     let mut left = Some(source);
@@ -103,7 +104,8 @@ fn line_end(source: &[u8]) -> Option<usize>
 
 fn read_line(alloc: Global, line: &[u8]) -> Result<Statement, ReadFault>
     ensures spelled { IfOk result (λ statement. Spells statement line.now) }
-    ensures out_of_form { IsErrOf result ReadFault.OutOfForm → (statement : Statement) → ¬ Spells statement line.now }
+    ensures out_of_form { IsErrOf result ReadFault.OutOfForm
+        → (statement : Statement) → ¬ Spells statement line.now }
 {
     if line.is_empty() {
         return Ok(Statement::Blank);
@@ -122,7 +124,8 @@ fn read_line(alloc: Global, line: &[u8]) -> Result<Statement, ReadFault>
 
 fn read_literal(alloc: Global, text: &[u8]) -> Result<Variant, ReadFault>
     ensures spelled { IfOk result (λ literal. SpellsLiteral literal text.now) }
-    ensures out_of_form { IsErrOf result ReadFault.OutOfForm → (literal : Variant) → ¬ SpellsLiteral literal text.now }
+    ensures out_of_form { IsErrOf result ReadFault.OutOfForm
+        → (literal : Variant) → ¬ SpellsLiteral literal text.now }
 {
     if let Some(bytes) = between(text, b"\"", b"\"") {
         return read_string(alloc, bytes);

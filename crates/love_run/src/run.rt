@@ -46,8 +46,10 @@ fn step(
     requires room { length channel.old < entry_limit }
     ensures printed { OnOk result (out.new.items ≡ out.old.items ++ printed channel.old statement.now) }
     ensures done { OnOk result (channel.new ≡ channel.old ++ added line channel.old statement.now) }
-    ensures printed_in_part { OnErr result (IsPrefix out.new.items (out.old.items ++ printed channel.old statement.now)) }
-    ensures done_in_part { OnErr result (IsPrefix channel.new (channel.old ++ added line channel.old statement.now)) }
+    ensures printed_in_part { OnErr result
+        (IsPrefix out.new.items (out.old.items ++ printed channel.old statement.now)) }
+    ensures done_in_part { OnErr result
+        (IsPrefix channel.new (channel.old ++ added line channel.old statement.now)) }
 {
     match statement {
         Statement::Blank => Ok(()),
@@ -101,7 +103,8 @@ fn caller(line: u32) -> Stamp
 // Adds the answer of a pop and a newline.
 fn print_answer(answer: &Option<Variant>, out: &mut Vec<u8>) -> Result<(), Memory>
     ensures ok { OnOk result (out.new.items ≡ out.old.items ++ (shown_answer answer.now ++ newline ∷ [])) }
-    ensures err { OnErr result (IsPrefix out.new.items (out.old.items ++ (shown_answer answer.now ++ newline ∷ []))) }
+    ensures err { OnErr result
+        (IsPrefix out.new.items (out.old.items ++ (shown_answer answer.now ++ newline ∷ []))) }
 {
     match answer {
         Some(message) => print(message, out),
@@ -112,7 +115,8 @@ fn print_answer(answer: &Option<Variant>, out: &mut Vec<u8>) -> Result<(), Memor
 // Adds the message and a newline, or a part of them where there is no room.
 fn print(message: &Variant, out: &mut Vec<u8>) -> Result<(), Memory>
     ensures ok { OnOk result (out.new.items ≡ out.old.items ++ (shown message.now ++ newline ∷ [])) }
-    ensures err { OnErr result (IsPrefix out.new.items (out.old.items ++ (shown message.now ++ newline ∷ []))) }
+    ensures err { OnErr result
+        (IsPrefix out.new.items (out.old.items ++ (shown message.now ++ newline ∷ []))) }
 {
     show(message, out)?;
     out.push(b'\n')?;

@@ -34,6 +34,7 @@ fn a_message_is_popped_once(rt: HostRuntime) -> Result<(), Fail> {
 }
 
 const PUSH: &str = "love.thread.getChannel(\"x\"):push";
+
 const POP: &str = "print(love.thread.getChannel(\"x\"):pop())";
 
 // Ten pushes, three pops, two pushes and ten pops.
@@ -52,7 +53,10 @@ fn messages_come_in_order(rt: HostRuntime) -> Result<(), Fail> {
     }
     let (report, sink) = play(rt.alloc(), source.as_bytes())?;
     assert_eq!(rt; report.status, DONE);
-    assert_eq!(rt; sink.taken(), b"1\n2\n3\n4\n5\n6\n7\n8\n9\n10\neleven\n12\nnil\n".as_slice());
+    assert_eq!(rt;
+        sink.taken(),
+        b"1\n2\n3\n4\n5\n6\n7\n8\n9\n10\neleven\n12\nnil\n".as_slice()
+    );
     let channel = report.channels.get(0).ok_or("the Channel")?;
     assert_eq!(rt; (channel.sent(), channel.received()), (12, 12));
     assert_eq!(rt; channel.history().len(), 24);

@@ -46,6 +46,9 @@ fn quiet_forms_tell_no_fault(rt: HostRuntime) -> Result<(), Fail> {
     let name = Text::of(rt.alloc(), b"main.lua")?;
     let source = Vec::from_slice(rt.alloc(), b"print(\"hi\")")?;
     let mut folder = QuietFolder::new(vec![in rt.alloc(); (name, source)]?);
-    assert_eq!(rt; quiet_status(rt.alloc(), words.as_slice(), &mut folder), DONE);
+    assert_eq!(rt;
+        quiet_status(rt.alloc(), words.as_slice(), &mut folder),
+        DONE
+    );
     Ok(())
 }
