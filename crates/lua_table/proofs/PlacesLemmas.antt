@@ -1,11 +1,11 @@
 -- What the definitions of a table say in the words of the map that holds its places.
-use Rattle.std.proofs.Common.{◌≡◌, ℕ, zero, suc, ◌+◌, ◌<◌, Bool, true, false, cond, not, [], ◌∷◌, length, drop, Option, None, Some, Ok, Err, refl, sym, ap, ◌∙◌, slice_get, is_some, arith}
+use Rattle.std.proofs.Common.{◌≡◌, ℕ, zero, suc, ◌+◌, ◌<◌, Bool, true, false, cond, not, [], ◌∷◌, length, drop, Option, None, Some, Ok, refl, sym, ap, ◌∙◌, slice_get, is_some, arith}
 use Rattle.std.specs.List.{position_or_len, position}
 use Rattle.std.specs.Map.{keys_of, lookup, set_value}
 use Rattle.std.specs.Option.{option_flatten, option_map_or}
 use Rattle.indexmap.specs.IndexMap.{insert_entry}
-use Rattle.indexmap.proofs.MapLemmas.{Found-position, Missing-position}
-use Rattle.lua_table.specs.Table.{Places, first, get, set, clear_key, has_place, next_after, no_such_key}
+use Rattle.indexmap.proofs.MapLemmas.{Found-position}
+use Rattle.lua_table.specs.Table.{Places, first, get, set, clear_key, has_place, next_after}
 
 module _ {K V : Type 0} (same : K → K → Bool) (key : K) where
   -- the value of a key is what the look-up finds, without the layer that says whether there is a place
@@ -44,16 +44,6 @@ module _ {K V : Type 0} (same : K → K → Bool) (key : K) where
       by true e later = cc
       by false e later = ap (λ r. place ∷ r) (later e)
 
-  -- what comes after a key that was never set
-  pub next_after-absent : (places : Places K V) → lookup (same key) places ≡ None → next_after same places key ≡ Err no_such_key
-  next_after-absent [] none = refl
-  next_after-absent (place ∷ rest) none = by (same key place.0) none (next_after-absent rest)
-    where
-      by : (b : Bool) → cond b (Some place.1) (lookup (same key) rest) ≡ None → (lookup (same key) rest ≡ None → next_after same rest key ≡ Err no_such_key)
-          → cond b (Ok (first rest)) (next_after same rest key) ≡ Err no_such_key
-      by true e later = cc
-      by false e later = later e
-
   -- what comes after the key at an index
   pub next_after-index : (places : Places K V) (n : ℕ) → position_or_len (same key) (keys_of places) ≡ n → n < length places → next_after same places key ≡ Ok (first (drop (suc n) places))
   next_after-index [] n e l = absurd (omega arith)
@@ -74,10 +64,6 @@ module _ {K V : Type 0} (same : K → K → Bool) (key : K) where
       next_after-index places n found.or_len found.within ∙ ap (λ k. Ok (first (drop k places))) (sym step)
 
 module _ {K V : Type 0} where
-  -- what has no index has no place
-  pub none_from_position : (test : K → Bool) (places : Places K V) → position test (keys_of places) ≡ None → lookup test places ≡ None
-  none_from_position test places none = (Missing-position test places none).value
-
   -- the first pair with a value from an index on, by the place at that index
   pub first-drop : (places : Places K V) (n : ℕ) (key : K) (value : Option V) → slice_get places n ≡ Some (key, value)
       → first (drop n places) ≡ option_map_or (λ v. Some (key, v)) value (first (drop (n + 1) places))

@@ -1,9 +1,9 @@
 //! What a table does with its places, over the map that holds them.
-ghost use Rattle.std.specs.Prelude.{◌≡◌, ◌+◌, ◌<◌, ◌≤◌, drop, IfSome, IfNone, IsTrue, IsOk, OnOk, OnErr};
+ghost use Rattle.std.specs.Prelude.{◌≡◌, ◌+◌, ◌<◌, ◌≤◌, drop, is_some, IfSome, IfNone, IsTrue, IsOk, OnOk, OnErr};
 ghost use Rattle.std.specs.Map.Iter.{deref_pair};
 ghost use Rattle.std.specs.Option.{option_map, option_copied};
 ghost use Rattle.indexmap.specs.IndexMap.{index_map_len, IsUnique};
-ghost use Rattle.lua_table.specs.Table.{first, get, set, clear_key, has_place, next_after, no_such_key, IsFilledTo, IsLeastBorder};
+ghost use Rattle.lua_table.specs.Table.{first, get, set, clear_key, has_place, next_after, IsFilledTo, IsLeastBorder};
 
 use crate::Position;
 use crate::key_hasher::KeyHasher;
@@ -55,7 +55,7 @@ pub(crate) fn clear_place<K: Position + Hash, V: Drop>(places: &mut Places<K, V>
 pub(crate) fn index_behind<K: Position + Hash, V>(places: &Places<K, V>, key: &K) -> Option<usize>
     ensures within { IfSome result (λ n. n ≤ index_map_len places.now) }
     ensures found { IfSome result (λ n. next_after K.eq places.now.entries key.now ≡ Ok (first (drop n places.now.entries))) }
-    ensures absent { IfNone result (next_after K.eq places.now.entries key.now ≡ Err no_such_key) }
+    ensures known { is_some result ≡ has_place K.eq places.now.entries key.now }
 {
     // An index and its successor fit: a map holds fewer than 2^63 places.
     let _count = places.len();

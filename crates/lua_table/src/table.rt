@@ -1,5 +1,5 @@
 //! The table.
-ghost use Rattle.std.specs.Prelude.{◌≡◌, ℕ, ◌≤◌, ◌↔◌, [], OnOk, OnErr, IfOk, IsOk, IsErr, IsNone, IsTrue, IsSome};
+ghost use Rattle.std.specs.Prelude.{◌≡◌, ℕ, ◌≤◌, ◌↔◌, [], OnOk, OnErr, IfOk, IsOk, IsErr, IsTrue, IsFalse, IsSomeAnd};
 ghost use Rattle.std.specs.List.{IsDistinct};
 ghost use Rattle.std.specs.Map.{keys_of};
 ghost use Rattle.std.specs.Map.Iter.{deref_pair};
@@ -29,13 +29,13 @@ pub struct Table<K: Position + Hash, V> {
 }
 
 impl<K: Position + Hash, V> Model for Table<K, V> {
-    ghost use Rattle.lua_table.specs.Table.{Places, IsLeastBorder};
+    ghost use Rattle.lua_table.specs.Table.{Places, IsTable};
 
     ghost Value = { Places K V };
 
     ghost view = { λ t. t.places.entries };
 
-    ghost invariant = { λ t. IsLeastBorder K.eq K.at_position t.places.entries t.border };
+    ghost invariant = { λ t. IsTable K.eq K.at_position t.places.entries t.border };
 }
 
 impl<K: Position + Hash + Drop, V: Drop> Table<K, V> {
@@ -96,7 +96,7 @@ impl<K: Position + Hash + Drop, V: Drop> Table<K, V> {
     /// [`NoSuchKey`] where the key was never set.
     pub fn next(&self, after: Option<&K>) -> Result<Option<(&K, &V)>, NoSuchKey>
         ensures pair { IfOk result (λ pair. table.next K.eq self.now (option_copied after.entry) ≡ Ok (option_map deref_pair pair)) }
-        ensures unknown { IsErr result ↔ (table.next K.eq self.now (option_copied after.entry) ≡ Err table.no_such_key) }
+        ensures unknown { IsErr result ↔ IsSomeAnd after.entry (λ key. IsFalse (table.has_place K.eq self.now key.now)) }
     {
         let start = match after {
             None => 0,
@@ -109,6 +109,7 @@ impl<K: Position + Hash + Drop, V: Drop> Table<K, V> {
     pub fn border(&self) -> u64
         ensures border { result ≡ table.border K.eq K.at_position self.now }
         ensures least { IsLeastBorder K.eq K.at_position self.now result }
+        ensures distinct { IsDistinct K.eq (keys_of self.now) }
     {
         self.border
     }

@@ -14,8 +14,7 @@ invariant_of-self g c =
     let lawful : Lawful g.K.PartialEq.eq g.K.Position.at_position g.K.Position.position_of =
     record { equivalence = g.met.K.Eq.laws; alike = g.met.K.Position.equal_is_same; inverse = g.met.K.Position.inverse } in
     let low = one-le-number _ lawful g.met.K.Position.numbered c.args.key.now c.in-Some.n (sym c.in-Some.ensures) in
-    rw c.clear_place.ensures.cleared
-    (IsLeastBorder-clear_key-within lawful c.self.inside.places.entries c.args.key.now c.self.inside.border c.in-Some.n c.self.invariant (sym c.in-Some.ensures) low c.if-n-self.true)
+    record { distinct = c.clear_place.ensures.distinct; border = rw c.clear_place.ensures.cleared (IsLeastBorder-clear_key-within lawful c.self.inside.places.entries c.args.key.now c.self.inside.border c.in-Some.n c.self.invariant.border (sym c.in-Some.ensures) low c.if-n-self.true) }
 
 pub invariant_of-self-else-n-self : goal.invariant_of-self-else-n-self
 invariant_of-self-else-n-self g c =
@@ -23,8 +22,7 @@ invariant_of-self-else-n-self g c =
     record { equivalence = g.met.K.Eq.laws; alike = g.met.K.Position.equal_is_same; inverse = g.met.K.Position.inverse } in
     let behind : (k : ℕ) → g.K.Position.position_of c.args.key.now ≡ Some k → c.self.inside.border < k =
     λ k e. let same : c.in-Some.n ≡ k = same_Some _ _ (c.in-Some.ensures ∙ e) in omega (arith, c.if-n-self.false) in
-    rw c.clear_place.ensures.cleared
-    (IsLeastBorder-clear_key-behind lawful c.self.inside.places.entries c.args.key.now c.self.inside.border c.self.invariant behind)
+    record { distinct = c.clear_place.ensures.distinct; border = rw c.clear_place.ensures.cleared (IsLeastBorder-clear_key-behind lawful c.self.inside.places.entries c.args.key.now c.self.inside.border c.self.invariant.border behind) }
 
 pub invariant_of-self-in-None : goal.invariant_of-self-in-None
 invariant_of-self-in-None g c =
@@ -32,5 +30,4 @@ invariant_of-self-in-None g c =
     record { equivalence = g.met.K.Eq.laws; alike = g.met.K.Position.equal_is_same; inverse = g.met.K.Position.inverse } in
     let behind : (k : ℕ) → g.K.Position.position_of c.args.key.now ≡ Some k → c.self.inside.border < k =
     λ k e. absurd (none-some k (c.in-None.ensures ∙ e)) in
-    rw c.clear_place.ensures.cleared
-    (IsLeastBorder-clear_key-behind lawful c.self.inside.places.entries c.args.key.now c.self.inside.border c.self.invariant behind)
+    record { distinct = c.clear_place.ensures.distinct; border = rw c.clear_place.ensures.cleared (IsLeastBorder-clear_key-behind lawful c.self.inside.places.entries c.args.key.now c.self.inside.border c.self.invariant.border behind) }

@@ -17,7 +17,7 @@ border_from-self-inside-requires g c =
     let next : c.in-Some.n ≡ c.self.inside.border + 1 = omega (arith, low, c.if-n-self.true) in
     let own : g.K.Position.position_of c.args.key ≡ Some (c.self.inside.border + 1) = sym c.in-Some.ensures ∙ ap (λ n. Some n) next in
     rw (c.in_ok-set_place.ensures.ok, next)
-    (IsFilledTo-set-next lawful c.self.inside.places.entries c.args.key c.args.value c.self.inside.border c.self.invariant own)
+    (IsFilledTo-set-next lawful c.self.inside.places.entries c.args.key c.args.value c.self.inside.border c.self.invariant.border own)
 
 pub invariant_of-self-else-n-self : goal.invariant_of-self-else-n-self
 invariant_of-self-else-n-self g c =
@@ -25,8 +25,7 @@ invariant_of-self-else-n-self g c =
     record { equivalence = g.met.K.Eq.laws; alike = g.met.K.Position.equal_is_same; inverse = g.met.K.Position.inverse } in
     let apart : g.K.Position.position_of c.args.key ≡ Some (c.self.inside.border + 1) → ⊥ =
     λ own. c.if-n-self.false (let same : c.in-Some.n ≡ c.self.inside.border + 1 = same_Some _ _ (c.in-Some.ensures ∙ own) in omega arith) in
-    rw c.in_ok-set_place.ensures.ok
-    (IsLeastBorder-set-other lawful c.self.inside.places.entries c.args.key c.args.value c.self.inside.border c.self.invariant apart)
+    record { distinct = c.in_ok-set_place.ensures.distinct; border = rw c.in_ok-set_place.ensures.ok (IsLeastBorder-set-other lawful c.self.inside.places.entries c.args.key c.args.value c.self.inside.border c.self.invariant.border apart) }
 
 pub invariant_of-self-in-None : goal.invariant_of-self-in-None
 invariant_of-self-in-None g c =
@@ -34,5 +33,4 @@ invariant_of-self-in-None g c =
     record { equivalence = g.met.K.Eq.laws; alike = g.met.K.Position.equal_is_same; inverse = g.met.K.Position.inverse } in
     let apart : g.K.Position.position_of c.args.key ≡ Some (c.self.inside.border + 1) → ⊥ =
     λ own. none-some (c.self.inside.border + 1) (c.in-None.ensures ∙ own) in
-    rw c.in_ok-set_place.ensures.ok
-    (IsLeastBorder-set-other lawful c.self.inside.places.entries c.args.key c.args.value c.self.inside.border c.self.invariant apart)
+    record { distinct = c.in_ok-set_place.ensures.distinct; border = rw c.in_ok-set_place.ensures.ok (IsLeastBorder-set-other lawful c.self.inside.places.entries c.args.key c.args.value c.self.inside.border c.self.invariant.border apart) }
