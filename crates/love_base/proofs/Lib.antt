@@ -1,3 +1,3 @@
 pub mod Content
-mod Distinct
+pub mod Distinct
 mod Parts

@@ -1,12 +1,8 @@
 -- Folders and sinks in memory whose failures are chosen beforehand, by the numbers of the calls.
-use Rattle.std.specs.Prelude.{ℕ, List, if◌then◌else◌, nat_lt, nat_eq, ◌+◌, Bool}
+use Rattle.std.specs.Prelude.{ℕ, List, if◌then◌else◌, nat_eq, Bool}
 use Rattle.std.specs.List.{list_any}
-use Rattle.love_base.specs.Fault.{last_count}
+use Rattle.love_base.specs.Fault.{next_count}
 use Rattle.love_base.specs.Folder.{File}
-
--- one more, or the same at the end of the type
-abbrev pub next_count : ℕ → ℕ
-next_count count = if nat_lt count last_count then count + 1 else count
 
 -- which calls fail, by their numbers from 1, and how many were made and failed
 pub record Script : Type 0 where

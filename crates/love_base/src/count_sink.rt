@@ -4,7 +4,8 @@ ghost use Rattle.love_base.specs.Fault.{last_count};
 use crate::{Sink, SinkErr};
 use std::marker::Model;
 
-/// A sink that takes every piece whole, keeps none of its bytes, and never fails.
+/// A sink that takes every piece whole, keeps none of its bytes, and never fails. Each call takes
+/// constant time.
 #[derive(Debug, Drop)]
 pub struct CountSink {
     taken: u64,

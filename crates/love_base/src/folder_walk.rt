@@ -1,10 +1,13 @@
-ghost use Rattle.std.specs.Prelude.{IfOk, nat_eq};
+ghost use Rattle.std.specs.Prelude.{◌≡◌, ◌++◌, IfOk, IsErrOf, nat_eq};
 ghost use Rattle.std.specs.List.{IsDistinct};
-ghost use Rattle.std.specs.Cmp.Lexicographic.{pointwise};
+ghost use Rattle.std.specs.List.Sorted.{IsStrictlySortedBy};
+ghost use Rattle.std.specs.Ordering.{nat_cmp};
+ghost use Rattle.std.specs.Cmp.Lexicographic.{pointwise, slice_cmp};
 
 use crate::{FolderErr, Memory, Text};
 use std::alloc::{AllocError, AllocFailed, Global};
 use std::fs::DirEntry;
+use std::io::ErrorKind;
 use std::rt::Files;
 use std::{fs, io};
 
@@ -12,28 +15,46 @@ use std::{fs, io};
 const DEEPEST: u8 = 16;
 
 impl From<AllocError> for FolderErr {
+    ghost use Rattle.love_base.specs.declared.folder.FolderErr.TheVariants.{Memory};
+
+    ghost from_gives = { λ _ fault. fault ≡ Memory };
+
     fn from(_refused: AllocError) -> FolderErr {
         FolderErr::Memory
     }
 }
 
 impl<T: Drop> From<AllocFailed<T>> for FolderErr {
+    ghost use Rattle.love_base.specs.declared.folder.FolderErr.TheVariants.{Memory};
+
+    ghost from_gives = { λ _ fault. fault ≡ Memory };
+
     fn from(_refused: AllocFailed<T>) -> FolderErr {
         FolderErr::Memory
     }
 }
 
 impl From<io::Error> for FolderErr {
+    ghost use Rattle.std.specs.Prelude.{◌≡◌, ◌↔◌};
+    ghost use Rattle.std.specs.IoError.{error_kind};
+    ghost use Rattle.std.specs.declared.io.ErrorKind.TheVariants.{OutOfMemory};
+    ghost use Rattle.love_base.specs.declared.folder.FolderErr.TheVariants.{Memory};
+
+    ghost from_gives = { λ fault own. (own ≡ Memory) ↔ (error_kind fault ≡ OutOfMemory) };
+
     fn from(fault: io::Error) -> FolderErr {
         match fault.kind() {
-            io::ErrorKind::OutOfMemory => FolderErr::Memory,
+            ErrorKind::OutOfMemory => FolderErr::Memory,
             _ => FolderErr::Failed,
         }
     }
 }
 
 // The text where it is UTF-8, as every path of the file system has to be.
-pub fn utf8(text: &Text) -> Result<&str, FolderErr> {
+pub fn utf8(text: &Text) -> Result<&str, FolderErr>
+    ensures same { IfOk result (λ found. found.now ≡ text.now) }
+    ensures never_memory { ¬ IsErrOf result FolderErr.Memory }
+{
     match str::from_utf8(text.bytes()) {
         Ok(text) => Ok(text),
         Err(_) => Err(FolderErr::Failed),
@@ -46,7 +67,8 @@ pub fn list_files<R: Files + AllocGlobal + Clone + Drop>(
     alloc: Global,
     at: &Text,
 ) -> Result<Vec<Text>, FolderErr>
-    ensures { IfOk result (λ names. IsDistinct (pointwise nat_eq) names.items) }
+    ensures sorted { IfOk result (λ names. IsStrictlySortedBy (slice_cmp nat_cmp) names.items) }
+    ensures differ { IfOk result (λ names. IsDistinct (pointwise nat_eq) names.items) }
 {
     let mut names = walk(rt, alloc, utf8(at)?)?;
     names.sort()?;
@@ -109,7 +131,9 @@ fn open_one<R: Files + AllocGlobal + Clone + Drop>(
     Ok(())
 }
 
-fn path_of(alloc: Global, folder: &str, name: &str) -> Result<Text, Memory> {
+fn path_of(alloc: Global, folder: &str, name: &str) -> Result<Text, Memory>
+    ensures { IfOk result (λ path. path ≡ folder.now ++ name.now) }
+{
     let mut path = Vec::from_slice(alloc, folder.as_bytes())?;
     path.extend_from_slice(name.as_bytes())?;
     Ok(Text::from_vec(path))
@@ -131,7 +155,7 @@ fn kind_of<R: Files + AllocGlobal + Clone + Drop>(
         Ok(metadata) if metadata.is_dir() => Ok(Kind::Folder),
         Ok(metadata) if metadata.is_file() => Ok(Kind::File),
         Ok(_) => Ok(Kind::Neither),
-        Err(fault) if fault.kind() == io::ErrorKind::NotFound => Ok(Kind::Neither),
+        Err(fault) if fault.kind() == ErrorKind::NotFound => Ok(Kind::Neither),
         Err(fault) => Err(FolderErr::from(fault)),
     }
 }

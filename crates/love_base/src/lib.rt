@@ -18,6 +18,8 @@ mod real_sink;
 mod script;
 mod sink;
 mod stamp;
+#[cfg(test)]
+mod tests;
 mod text;
 mod text_order;
 

@@ -34,7 +34,7 @@ impl<T> List<T> {
         }
     }
 
-    /// The list of a vector's items. Nothing is copied.
+    /// The list of a vector's items. Nothing is copied: constant time.
     pub fn from_vec(items: Vec<T>) -> List<T>
         ensures { result ≡ items.items }
     {

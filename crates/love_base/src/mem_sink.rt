@@ -28,7 +28,7 @@ impl Model for MemSink {
 
 impl MemSink {
     /// A sink that takes at most `most` bytes a call. The calls whose numbers, counted from 1, stand in
-    /// `fails` answer [`SinkErr::Failed`].
+    /// `fails` answer [`SinkErr::Failed`]. It takes no memory until bytes are written.
     pub fn new(alloc: Global, most: usize, fails: Vec<u64>) -> MemSink
         requires { 0 < most }
         ensures most { result.most ≡ most }
@@ -42,7 +42,7 @@ impl MemSink {
         }
     }
 
-    /// The bytes taken so far, in order.
+    /// The bytes taken so far, in order, in constant time.
     pub fn taken(&self) -> &[u8]
         ensures { result.now ≡ self.now.taken }
     {
@@ -55,7 +55,8 @@ impl Sink for MemSink {
 
     ghost taken = { λ sink. Option.Some sink.taken };
 
-    /// A write for which there is no room is no fault.
+    /// A write for which there is no room answers [`SinkErr::Memory`], takes nothing, and is no fault.
+    /// The bytes taken are copied.
     fn write(&mut self, piece: &[u8]) -> Result<usize, SinkErr>
         requires { 0 < length piece.now }
         ensures count { IfOk result (λ count. count ≡ min self.old.most (length piece.now)) }

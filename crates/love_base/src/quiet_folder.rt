@@ -8,7 +8,8 @@ use crate::{Folder, FolderErr, Text};
 use std::alloc::Global;
 use std::marker::Model;
 
-/// A folder in memory that tells its files, and never fails.
+/// A folder in memory that tells its files, and never fails. Like [`MemFolder`](crate::MemFolder) it
+/// answers alike whatever folder it is asked for, looks at the files in order, and copies what it gives.
 #[derive(Debug, Drop)]
 pub struct QuietFolder {
     files: FileTable,
@@ -24,7 +25,7 @@ impl Model for QuietFolder {
 }
 
 impl QuietFolder {
-    /// A folder of these files, by path and bytes.
+    /// A folder of these files, by path and bytes, no two of one path. Constant time.
     pub fn new(files: Vec<(Text, Vec<u8>)>) -> QuietFolder
         requires { IsDistinct (pointwise nat_eq) (paths (stored files.items)) }
         ensures { result ≡ stored files.items }

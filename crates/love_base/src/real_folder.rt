@@ -1,5 +1,9 @@
-ghost use Rattle.std.specs.Prelude.{◌≡◌, ◌≤◌, ℕ, Option, IsErrOf};
-ghost use Rattle.love_base.specs.Fault.{HasRisen};
+ghost use Rattle.std.specs.Prelude.{◌≡◌, Option, IfOk, IsErrOf, nat_eq};
+ghost use Rattle.std.specs.List.{IsDistinct};
+ghost use Rattle.std.specs.List.Sorted.{IsStrictlySortedBy};
+ghost use Rattle.std.specs.Ordering.{nat_cmp};
+ghost use Rattle.std.specs.Cmp.Lexicographic.{pointwise, slice_cmp};
+ghost use Rattle.love_base.specs.Fault.{HasRisen, next_count};
 
 use crate::folder_walk::{list_files, utf8};
 use crate::{Folder, FolderErr, Text};
@@ -11,8 +15,10 @@ use std::rt::Files;
 /// The folders of the file system, as the process sees them.
 ///
 /// `list` gives the regular files, also those that a link leads to, in the byte order of their paths,
-/// and passes over what is no file and no folder. A name that isn't UTF-8, and folders nested over 16
-/// deep, are failures.
+/// and passes over what is no file and no folder, as a link that leads nowhere. A name that isn't UTF-8,
+/// folders nested over 16 deep, and a folder below that can't be opened are failures of the whole
+/// listing. It opens each folder once and looks at each entry once, then sorts; `read` reads one file
+/// whole.
 #[derive(Drop)]
 pub struct RealFolder<R: Files + AllocGlobal + Clone + Drop> {
     rt: R,
@@ -39,7 +45,8 @@ impl<R: Files + AllocGlobal + Clone + Drop> RealFolder<R> {
     fn counted<T>(&mut self, outcome: Result<T, FolderErr>) -> Result<T, FolderErr>
         ensures same { result ≡ outcome }
         ensures failed { IsErrOf result FolderErr.Failed → HasRisen self.old self.new }
-        ensures count { self.old ≤ self.new }
+        ensures counted { IsErrOf result FolderErr.Failed → self.new ≡ next_count self.old }
+        ensures steady { ¬ IsErrOf result FolderErr.Failed → self.new ≡ self.old }
     {
         if let Err(FolderErr::Failed) = &outcome {
             self.faults = self.faults.saturating_add(1);
@@ -55,12 +62,22 @@ impl<R: Files + AllocGlobal + Clone + Drop> Folder for RealFolder<R> {
 
     ghost calls = { λ _. 0 };
 
-    fn list(&mut self, alloc: Global, at: &Text) -> Result<Vec<Text>, FolderErr> {
+    fn list(&mut self, alloc: Global, at: &Text) -> Result<Vec<Text>, FolderErr>
+        ensures sorted { IfOk result (λ names. IsStrictlySortedBy (slice_cmp nat_cmp) names.items) }
+        ensures differ { IfOk result (λ names. IsDistinct (pointwise nat_eq) names.items) }
+        ensures failed { IsErrOf result FolderErr.Failed → HasRisen self.old self.new }
+        ensures counted { IsErrOf result FolderErr.Failed → self.new ≡ next_count self.old }
+        ensures steady { ¬ IsErrOf result FolderErr.Failed → self.new ≡ self.old }
+    {
         let listed = list_files(&self.rt, alloc, at);
         self.counted(listed)
     }
 
-    fn read(&mut self, alloc: Global, at: &Text, name: &Text) -> Result<Vec<u8>, FolderErr> {
+    fn read(&mut self, alloc: Global, at: &Text, name: &Text) -> Result<Vec<u8>, FolderErr>
+        ensures failed { IsErrOf result FolderErr.Failed → HasRisen self.old self.new }
+        ensures counted { IsErrOf result FolderErr.Failed → self.new ≡ next_count self.old }
+        ensures steady { ¬ IsErrOf result FolderErr.Failed → self.new ≡ self.old }
+    {
         let bytes = read_file(&self.rt, alloc, at, name);
         self.counted(bytes)
     }

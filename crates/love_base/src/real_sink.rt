@@ -1,11 +1,12 @@
-ghost use Rattle.std.specs.Prelude.{◌≡◌, ◌≤◌, ℕ, Option, IsErrOf};
-ghost use Rattle.love_base.specs.Fault.{HasRisen};
+ghost use Rattle.std.specs.Prelude.{◌≡◌, ◌<◌, ◌≤◌, Option, length, IfOk, IsErrOf};
+ghost use Rattle.love_base.specs.Fault.{HasRisen, next_count};
 
 use crate::{Sink, SinkErr};
 use std::io;
 use std::marker::Model;
 
-/// Standard output.
+/// Standard output. Each call is one write of the system, and keeps no byte back. An output that takes
+/// nothing of a piece is a failure.
 #[derive(Drop)]
 pub struct RealSink<R: Print + Drop> {
     rt: R,
@@ -34,7 +35,14 @@ impl<R: Print + Drop> Sink for RealSink<R> {
 
     ghost taken = { λ _. Option.None };
 
-    fn write(&mut self, piece: &[u8]) -> Result<usize, SinkErr> {
+    fn write(&mut self, piece: &[u8]) -> Result<usize, SinkErr>
+        requires { 0 < length piece.now }
+        ensures some { IfOk result (λ count. 0 < count) }
+        ensures within { IfOk result (λ count. count ≤ length piece.now) }
+        ensures failed { IsErrOf result SinkErr.Failed → HasRisen self.old self.new }
+        ensures counted { IsErrOf result SinkErr.Failed → self.new ≡ next_count self.old }
+        ensures steady { ¬ IsErrOf result SinkErr.Failed → self.new ≡ self.old }
+    {
         match self.rt.write_some(piece) {
             Ok(count) if count > 0 => Ok(count),
             Err(fault) if fault.kind() == io::ErrorKind::OutOfMemory => Err(SinkErr::Memory),

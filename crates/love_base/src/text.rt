@@ -20,7 +20,7 @@ impl Model for Text {
 }
 
 impl Text {
-    /// A text of these bytes, which are copied.
+    /// A text of these bytes, which are copied, in time linear in their number.
     ///
     /// # Errors
     ///
@@ -32,7 +32,7 @@ impl Text {
         Ok(Text { bytes })
     }
 
-    /// The text that these bytes are. Nothing is copied.
+    /// The text that these bytes are. Nothing is copied: constant time.
     pub fn from_vec(bytes: Vec<u8>) -> Text
         ensures { result ≡ bytes.items }
     {
