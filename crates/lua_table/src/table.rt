@@ -69,6 +69,7 @@ impl<K: Position + Hash + Drop, V: Drop> Table<K, V> {
         set_place(&mut self.places, key, value)?;
         match position {
             Some(n) if n - 1 == self.border => self.border = border_from(&self.places, n),
+            // The proof asks for an arm of its own where there is no position.
             Some(_) => {}
             None => {}
         }
