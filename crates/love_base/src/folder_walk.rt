@@ -76,55 +76,57 @@ pub fn list_files<R: Files + AllocGlobal + Clone + Drop>(
     Ok(names)
 }
 
-// The paths of the files below `root`, level by level, so that no deeper nesting takes more of the stack.
+// A folder that is still to be opened.
+#[derive(Drop)]
+struct Unopened {
+    // Its path below the root: empty for the root itself, and else ending in `/`.
+    path: String,
+    // How deep it is nested below the root.
+    depth: u8,
+}
+
+// The paths of the files below `root`. The folder found last is opened first, so that a nesting without end,
+// as a link to a folder above itself makes one, is met in few steps; and nothing of it is on the stack.
 fn walk<R: Files + AllocGlobal + Clone + Drop>(
     rt: &R,
     alloc: Global,
     root: &str,
 ) -> Result<Vec<Text>, FolderErr> {
     let mut names = Vec::new(alloc);
-    let mut folders = Vec::new(alloc);
-    folders.push(String::new(alloc))?;
-    for _ in 0..=DEEPEST {
-        folders = open_all(rt, alloc, root, &folders, &mut names)?;
+    let mut unopened = Vec::new(alloc);
+    let path = String::new(alloc);
+    unopened.push(Unopened { path, depth: 0 })?;
+    // More folders than this are on no machine.
+    for _ in 0..u64::MAX {
+        let Some(folder) = unopened.pop() else {
+            return Ok(names);
+        };
+        open(rt, alloc, root, &folder, &mut names, &mut unopened)?;
     }
-    if folders.is_empty() {
-        Ok(names)
-    } else {
-        Err(FolderErr::Failed)
-    }
+    Err(FolderErr::Failed)
 }
 
-// Adds the files right in these folders to `names`, and gives the folders right in them. A folder's path
-// ends in `/`; that of the root is empty.
-fn open_all<R: Files + AllocGlobal + Clone + Drop>(
+// Adds the files right in this folder to `names`, and the folders right in it to `unopened`.
+fn open<R: Files + AllocGlobal + Clone + Drop>(
     rt: &R,
     alloc: Global,
     root: &str,
-    folders: &[String],
+    folder: &Unopened,
     names: &mut Vec<Text>,
-) -> Result<Vec<String>, FolderErr> {
-    let mut inner = Vec::new(alloc);
-    for folder in folders {
-        open_one(rt, alloc, root, folder.as_str(), names, &mut inner)?;
-    }
-    Ok(inner)
-}
-
-fn open_one<R: Files + AllocGlobal + Clone + Drop>(
-    rt: &R,
-    alloc: Global,
-    root: &str,
-    folder: &str,
-    names: &mut Vec<Text>,
-    inner: &mut Vec<String>,
+    unopened: &mut Vec<Unopened>,
 ) -> Result<(), FolderErr> {
-    for entry in fs::read_dir(rt, format!(in alloc; "{root}/{folder}")?)? {
+    let at = folder.path.as_str();
+    for entry in fs::read_dir(rt, format!(in alloc; "{root}/{at}")?)? {
         let entry = entry?;
         let name = entry.file_name();
         match kind_of(rt, &entry)? {
-            Kind::File => names.push(path_of(alloc, folder, name)?)?,
-            Kind::Folder => inner.push(format!(in alloc; "{folder}{name}/")?)?,
+            Kind::File => names.push(path_of(alloc, at, name)?)?,
+            Kind::Folder if folder.depth >= DEEPEST => return Err(FolderErr::Failed),
+            Kind::Folder => {
+                let path = format!(in alloc; "{at}{name}/")?;
+                let depth = folder.depth + 1;
+                unopened.push(Unopened { path, depth })?;
+            }
             Kind::Neither => {}
         }
     }
