@@ -1,5 +1,5 @@
 -- Messages are popped in the order in which they were pushed.
-use Rattle.std.proofs.Common.{◌≡◌, ◌≢◌, ℕ, ◌+◌, ◌++◌, List, [], ◌∷◌, length, Option, Some, None, refl, sym, ◌∙◌, ap, subst, arith, ◌↔◌}
+use Rattle.std.proofs.Common.{◌≡◌, ℕ, ◌+◌, ◌++◌, List, [], ◌∷◌, length, Option, Some, None, refl, sym, ◌∙◌, ap, arith, ◌↔◌}
 use Rattle.std.proofs.lemmas.List.{append_assoc, append-nil, length-append}
 use Rattle.std.specs.List.{filter_map, slice_get}
 use Rattle.std.specs.Option.{option_to_list}
@@ -7,7 +7,7 @@ use Rattle.love_base.specs.Prefix.{IsPrefix}
 use Rattle.variant.specs.declared.message.Variant.{Variant}
 use Rattle.channel_core.specs.declared.entry.Entry.{Entry}
 use Rattle.channel_core.specs.History.{front, put_by, queue, received_messages, sent_messages, take_by}
-use Rattle.channel_core.specs.Lawful.{FindsMessage, HasMessages}
+use Rattle.channel_core.specs.Lawful.{HasMessages}
 use Rattle.channel_core.proofs.Histories.{front-none, front-waits, sent_messages-put, sent_messages-take}
 use Rattle.channel_core.proofs.Lawfulness.{AtEach-nil, AtEach-push}
 use Rattle.channel_core.proofs.InOrder.{received_messages-put, received_messages-take, sent_in_order}

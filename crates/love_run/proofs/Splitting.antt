@@ -1,5 +1,5 @@
 -- Texts taken apart at their front and at their end, and sources at their first newline.
-use Rattle.std.proofs.Common.{◌≡◌, ◌≢◌, ℕ, zero, suc, ◌+◌, ◌-◌, ◌<◌, ◌≤◌, Bool, true, false, List, [], ◌∷◌, ◌++◌, length, take, drop, get_or, eqb, nat_eq, Option, Some, None, Bor, MatchOption, IfSome, IfNone, sym, ◌∙◌, ap, refl, arith, add-one, length-append}
+use Rattle.std.proofs.Common.{◌≡◌, ℕ, zero, suc, ◌+◌, ◌-◌, ◌<◌, true, false, List, [], ◌∷◌, ◌++◌, length, take, drop, get_or, eqb, nat_eq, Option, Some, None, Bor, MatchOption, IfSome, IfNone, sym, ◌∙◌, ap, refl, arith, length-append}
 use Rattle.std.proofs.Math.Seq.{take-append_seam, drop-append_seam, take-length}
 use Rattle.std.proofs.lemmas.List.{take-append-drop, length-drop}
 use Rattle.std.proofs.lemmas.Bool.{ne_eqb, eq-eqb}

@@ -1,5 +1,5 @@
 -- How a run of the program ends.
-use Rattle.std.specs.Prelude.{◌≡◌, ℕ, List, ◌∷◌, [], Option, Some, None, Result, Ok, Err, codes, ◌⊎◌, ⊤}
+use Rattle.std.specs.Prelude.{◌≡◌, ℕ, List, ◌∷◌, [], Some, None, Result, Ok, Err, codes, ◌⊎◌, ⊤}
 use Rattle.love_base.specs.Folder.{File, content}
 use Rattle.love_base.specs.declared.folder.FolderErr.{FolderErr}
 use Rattle.love_base.specs.declared.folder.FolderErr.TheVariants as folder

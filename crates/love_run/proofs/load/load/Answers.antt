@@ -1,4 +1,3 @@
-use Rattle.std.proofs.Common.{ap, ◌∙◌}
 use Rattle.love_run.proofs.Loading.{main_missing, main_there}
 use Rattle.love_run.proofs.load.load.Goals as goal
 

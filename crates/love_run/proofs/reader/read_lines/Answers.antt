@@ -1,4 +1,3 @@
-use Rattle.std.proofs.Common.{◌≡◌}
 use Rattle.std.proofs.lemmas.Result.{err_from_is_err_and}
 use Rattle.love_run.proofs.Reading.{all_read, line_read, line_refused}
 use Rattle.love_run.proofs.reader.read_lines.Goals as goal
