@@ -5,3 +5,5 @@ pub mod Takes
 pub mod Gives
 pub mod SetUp
 pub mod Seats
+pub mod Rows
+pub mod Keeping

@@ -1,3 +1,5 @@
 pub mod View
 pub mod Rule
 pub mod Steps
+pub mod Passes
+pub mod Lending

@@ -2,8 +2,15 @@
 //! what they changed in one step and give them back.
 #![tactic(auto)]
 
+mod desk;
+mod held;
+mod kept;
 mod logged;
+mod pass;
 mod plays;
 mod view;
 
+pub use desk::Desk;
+pub use held::{Busy, Held};
 pub use logged::Logged;
+pub use pass::Pass;
