@@ -61,10 +61,10 @@ module _ {E : Type 0} where
   }
 
   -- what is known of the object o once its history was published
-  abbrev published_spot : ℕ → List E → View E → Spot E
+  abbrev pub published_spot : ℕ → List E → View E → Spot E
   published_spot o log v = let x = spot v o in record { phase = Published; known = log; front = length log; own = x.own ++ places v.number (length x.known) (length log - length x.known); told = x.told }
 
-  abbrev freed_spot : ℕ → View E → Spot E
+  abbrev pub freed_spot : ℕ → View E → Spot E
   freed_spot o v = let x = spot v o in record { phase = Free; known = x.known; front = x.front; own = x.own; told = x.told }
 
   -- how often a place is the pass's own once the history was published: once more, where it is new

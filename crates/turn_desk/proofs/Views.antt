@@ -1,10 +1,12 @@
 -- What is known of one object after a change of what is known.
-use Rattle.std.proofs.Common.{◌≡◌, ◌≢◌, ℕ, ◌+◌, ◌<◌, ◌≤◌, zero, suc, List, [], ◌∷◌, ◌++◌, length, get_or, set, sym, refl, ap, ◌∙◌, arith, get_or-set_other, get_or-set_same, replicate}
-use Rattle.turn_desk.specs.declared.view.Phase.{Phase}
+use Rattle.std.proofs.Common.{◌≡◌, ◌≢◌, ℕ, ◌+◌, ◌<◌, ◌≤◌, zero, suc, List, [], ◌∷◌, ◌++◌, length, get_or, set, sym, refl, ap, ◌∙◌, arith, get_or-set_other, get_or-set_same, replicate, subst, append_assoc}
+use Rattle.std.proofs.lemmas.List.Elements.{All-push}
+use Rattle.turn_desk.specs.declared.view.Refusal.{Refusal}
 use Rattle.turn_desk.specs.declared.view.Phase.TheVariants.{Free, Taken, Published}
 use Rattle.turn_desk.specs.declared.view.Spot.{Spot}
 use Rattle.turn_desk.specs.declared.view.View.{View}
-use Rattle.turn_desk.specs.View.{blank, spot, with_spot, joined, all_joined}
+use Rattle.turn_desk.specs.View.{blank, spot, with_spot, refused, joined, all_joined}
+use Rattle.turn_desk.specs.Steps.{IsOther, Noted}
 
 pub taken_is_busy : Taken ≢ Free
 taken_is_busy e = cc
@@ -35,3 +37,9 @@ module _ {E : Type 0} where
   length_joined seat [] ys = refl
   length_joined seat (x ∷ xs) [] = refl
   length_joined seat (x ∷ xs) (y ∷ ys) = ap suc (length_joined seat xs ys)
+
+  -- one refusal more
+  pub noted_more : (v w u : View E) (o n : ℕ) → Noted v o w → u ≡ refused o n w → IsOther w n → Noted v o u
+  noted_more v w u o n k e other = let note : Refusal = record { seat = v.number; object = o; found = n } in let is = subst (λ (z : View E). IsOther z n) k.2 other in
+      (k.0 ++ note ∷ [], All-push (λ (r : Refusal). (r.seat ≡ v.number) × (r.object ≡ o) × IsOther v r.found) k.0 note k.1 (refl, refl, record { real = is.real; within = is.within; few = is.few; apart = is.apart }),
+      e ∙ (ap (refused o n) k.2 ∙ ap (λ (l : List Refusal). record v { refused = l }) (append_assoc v.refused k.0 (note ∷ []))))

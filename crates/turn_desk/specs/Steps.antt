@@ -1,8 +1,9 @@
 -- What each step tells the pass that makes it.
-use Rattle.std.specs.Prelude.{◌≡◌, ◌≢◌, ℕ, ◌+◌, ◌<◌, ◌≤◌, Bool, true, List, [], ◌∷◌, length, slice_index, Option, Some, None}
+use Rattle.std.specs.Prelude.{◌≡◌, ◌≢◌, ℕ, ◌+◌, ◌<◌, ◌≤◌, All, Bool, true, List, [], ◌∷◌, ◌++◌, length, slice_index, Option, Some, None}
 use mathlib.Core.Option.{some}
 use lib.ListN.{get_elem?}
 use Rattle.atomic_table.specs.Table.{Me, Step, rest}
+use Rattle.turn_desk.specs.declared.view.Refusal.{Refusal}
 use Rattle.turn_desk.specs.declared.view.Told.{Told}
 use Rattle.turn_desk.specs.declared.view.View.{View}
 use Rattle.turn_desk.specs.View.{Extends, spot, taken, refused, published, freed, seated, brought}
@@ -19,6 +20,19 @@ pub record IsOther {E : Type 0} (v : View E) (n : ℕ) : Type 0 where
   pub within : n ≤ v.seats
   pub few : v.seats ≤ 17
   pub apart : n ≢ v.number
+
+module _ {E : Type 0} where
+  -- each is a refusal of this pass at the object o, that found another pass's number
+  abbrev pub AreRefusals : View E → ℕ → List Refusal → Type 0
+  AreRefusals v o notes = All (λ (r : Refusal). (r.seat ≡ v.number) × (r.object ≡ o) × IsOther v r.found) notes
+
+  -- takes of the object o were refused, and nothing else changed
+  abbrev pub Noted : View E → ℕ → View E → Type 0
+  Noted v o w = (notes : List Refusal) × AreRefusals v o notes × (w ≡ record v { refused = v.refused ++ notes })
+
+  -- the object o was taken with this history, perhaps after some refusals
+  abbrev pub TakesAfterRefusals : View E → ℕ → List E → View E → Type 0
+  TakesAfterRefusals v o log w = (notes : List Refusal) × AreRefusals v o notes × (w ≡ taken o log (record v { refused = v.refused ++ notes }))
 
 module _ {O E : Type 0} (history : O → List E) (number : O → ℕ) (between : List E → Bool) where
   -- the pass has the object o, which is x, with a history that goes on from all that it had seen

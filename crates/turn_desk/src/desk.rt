@@ -1,7 +1,7 @@
 ghost use Rattle.std.specs.Prelude.{◌≡◌, ◌≢◌, ◌<◌, ◌≤◌, ◌^◌, true, IfOk, IfErr, length};
 ghost use Rattle.turn_desk.specs.declared.view.Phase.TheVariants.{Free, Taken};
 ghost use Rattle.turn_desk.specs.View.{Extends, spot, taken, refused, published, freed};
-ghost use Rattle.turn_desk.specs.Steps.{Continues, IsOther};
+ghost use Rattle.turn_desk.specs.Steps.{Continues, IsOther, TakesAfterRefusals};
 ghost use Rattle.turn_desk.specs.Passes.{fixed_at};
 
 use crate::held::{Busy, Held};
@@ -13,6 +13,7 @@ use crate::view::View;
 use atomic_table::{Seat, Table};
 use std::alloc::Global;
 use std::marker::{Brand, Model};
+use std::sync::Wait;
 
 /// Objects that threads take in turn.
 #[derive(Drop)]
@@ -67,5 +68,75 @@ impl<O: Logged> Desk<O> {
         pass.kept.push_reserved(object);
         pass.fronts[slot] = value.length();
         Ok(Held { object, value })
+    }
+    /// Takes an object, and waits while another pass has it. Whether a wait ends is up to the other threads.
+    pub fn hold<R: Wait>(&self, rt: &R, pass: &mut Pass<O>, object: u32) -> Held<O>
+        requires own { pass.old.desk ≡ self.now }
+        requires object { object < self.now.table.slots }
+        requires free { (spot pass.old.view object).phase ≡ Free }
+        ensures own { pass.new.desk ≡ pass.old.desk }
+        ensures object { result.object ≡ object }
+        ensures taken { TakesAfterRefusals pass.old.view object (O.history result.value) pass.new.view }
+        ensures seen { Continues pass.old.view object (O.history result.value) }
+        ensures replay { result.value ≡ O.replay (fixed_at pass.old.view object) (O.history result.value) }
+        ensures fixed { O.fixed_number result.value ≡ fixed_at pass.old.view object }
+        ensures between { O.between (O.history result.value) ≡ true }
+    {
+        for _ in rt.forever() {
+            match self.try_hold(pass, object) {
+                Ok(held) => return held,
+                Err(busy) => self.table.shared.park(rt, object as usize, busy.seat),
+            }
+        }
+        unreachable!()
+    }
+
+    /// Writes the new tally. From this step on the object's history is published.
+    fn publish<W: Said<O::Entry>>(
+        &self,
+        seat: &mut Seat<Option<O>, View<O::Entry>>,
+        slot: usize,
+        value: &O,
+    )
+        requires own { seat.old.table_id ≡ self.now.table }
+        requires slot { slot < self.now.table.slots }
+        requires said { (W.object ≡ slot) × (W.log ≡ O.history value.now) }
+        requires taken { (spot seat.old.me.0 slot).phase ≡ Taken }
+        requires ready { seat.old.me.0.awaited ≡ 0 }
+        requires grown { Extends (spot seat.old.me.0 slot).known (O.history value.now) }
+        requires between { O.between (O.history value.now) ≡ true }
+        ensures own { (seat.new.table_id ≡ seat.old.table_id) × (seat.new.id ≡ seat.old.id) }
+        ensures published { seat.new.me ≡ (published slot (O.history value.now) seat.old.me.0, seat.old.me.1) }
+    {
+        let tally = value.length() as u64 * (1 << 42) + value.summary();
+        let word = self.table.slot_count() + slot;
+        self.table.shared.swap::<Publish<W>>(seat, word, tally);
+    }
+
+    /// Publishes what was changed in one atomic step, gives the object back in another, and wakes those
+    /// that wait for it. Turning to the object's slot costs as much as this pass has objects.
+    pub fn release(&self, pass: &mut Pass<O>, held: Held<O>)
+        requires own { pass.old.desk ≡ self.now }
+        requires object { held.object < self.now.table.slots }
+        requires taken { (spot pass.old.view held.object).phase ≡ Taken }
+        requires grown { Extends (spot pass.old.view held.object).known (O.history held.value) }
+        requires fixed { O.fixed_number held.value ≡ fixed_at pass.old.view held.object }
+        requires between { O.between (O.history held.value) ≡ true }
+        ensures own { pass.new.desk ≡ pass.old.desk }
+        ensures released { pass.new.view
+            ≡ freed held.object (published held.object (O.history held.value) pass.old.view) }
+    {
+        let Held { object, value } = held;
+        let slot = object as usize;
+        let shared = &self.table.shared;
+        self.publish::<Brand>(&mut pass.seat, slot, &value);
+        pass.fronts[slot] = value.length();
+        let place = place_of(pass.kept.as_slice(), object);
+        turn_by(&mut pass.seat, place);
+        drop(shared.exchange(&mut pass.seat, slot, Some(value)));
+        shared.swap::<Give>(&mut pass.seat, slot, 0);
+        pass.kept.remove(place);
+        turn_by(&mut pass.seat, pass.kept.len() - place);
+        shared.wake_all(slot);
     }
 }
