@@ -28,7 +28,7 @@ module _ {E : Type 0} where
       let one : cond {A = ℕ} (is_free (spot v o).phase) 1 0 ≡ 1 = ap (λ (p : Phase). cond {A = ℕ} (is_free p) 1 0) free in omega arith
 
 -- two writes at one place are the second
-set_twice : {A : Type 0} (l : List A) (i : ℕ) (a b : A) → set (set l i a) i b ≡ set l i b
+pub set_twice : {A : Type 0} (l : List A) (i : ℕ) (a b : A) → set (set l i a) i b ≡ set l i b
 set_twice [] i a b = refl
 set_twice (x ∷ xs) zero a b = refl
 set_twice (x ∷ xs) (suc i) a b = ap (λ l. x ∷ l) (set_twice xs i a b)

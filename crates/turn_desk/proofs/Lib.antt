@@ -7,3 +7,4 @@ pub mod SetUp
 pub mod Seats
 pub mod Rows
 pub mod Keeping
+pub mod Vacant

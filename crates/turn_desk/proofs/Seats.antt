@@ -20,10 +20,10 @@ use Rattle.turn_desk.proofs.Lists.{further, set_there, at_either, at_end, sum_se
 use Rattle.turn_desk.proofs.Views.{blank_spot, joined_spot, length_joined}
 
 -- a number stands once in the list of itself, and no other does
-alone_here : (n k : ℕ) → n ≡ k → count_by (λ (i : ℕ). i == n) (k ∷ []) ≡ 1
+pub alone_here : (n k : ℕ) → n ≡ k → count_by (λ (i : ℕ). i == n) (k ∷ []) ≡ 1
 alone_here n k e = ap (λ (b : Bool). 0 + cond {A = ℕ} b 1 0) (eq-eqb k n (sym e))
 
-alone_else : (n k : ℕ) → n ≢ k → count_by (λ (i : ℕ). i == n) (k ∷ []) ≡ 0
+pub alone_else : (n k : ℕ) → n ≢ k → count_by (λ (i : ℕ). i == n) (k ∷ []) ≡ 0
 alone_else n k ne = ap (λ (b : Bool). 0 + cond {A = ℕ} b 1 0) (ne_eqb k n (λ e. ne (sym e)))
 
 module _ {E : Type 0} where

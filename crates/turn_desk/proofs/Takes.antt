@@ -22,16 +22,20 @@ use Rattle.turn_desk.proofs.Rule.{given, one_seat, ChangesAt, Unmoved, Agrees, r
 use Rattle.turn_desk.proofs.Views.{at_spot, off_spot, taken_is_busy}
 
 module _ {E : Type 0} where
+  -- what is known of the object o once it was taken
+  abbrev pub taken_spot : ℕ → List E → View E → Spot E
+  taken_spot o log v = record { phase = Taken; known = log; front = length log; own = (spot v o).own; told = (spot v o).told }
+
   -- taking the object o changes what is known of it alone
   taking : (o : ℕ) (log : List E) (v : View E) → ChangesAt o v (taken o log v)
-  taking o log v = record { number = refl; numbers = refl; next = refl; spots = λ p ne. off_spot v o p (record { phase = Taken; known = log; front = length log; own = (spot v o).own; told = (spot v o).told }) ne }
+  taking o log v = record { number = refl; numbers = refl; next = refl; spots = λ p ne. off_spot v o p (taken_spot o log v) ne }
 
   refusing : (o found : ℕ) (v : View E) → ChangesAt o v (refused o found v)
   refusing o found v = record { number = refl; numbers = refl; next = refl; spots = λ p ne. refl }
 
   -- the pass that takes knows the history whole
   knows_taken : (W : World E) (v : View E) (o : ℕ) (log : List E) → o < W.objects → log ≡ W.logs o → Knows W v → Knows W (taken o log v)
-  knows_taken W v o log lt is k = knows_spot W v o (record { phase = Taken; known = log; front = length log; own = (spot v o).own; told = (spot v o).told }) lt k
+  knows_taken W v o log lt is k = knows_spot W v o (taken_spot o log v) lt k
       (subst (Extends log) is (whole log)) (omega arith) (let e : length log ≡ length (W.logs o) = ap length is in omega arith) (k.told o)
 
   -- the pass that was refused knows of it
@@ -68,7 +72,7 @@ module _ {O E : Type 0} (history : O → List E) (number : O → ℕ) (summed : 
   object_taken s r o id v log lt at real e is =
       let ob = r.objects o lt in let long : length s.words ≡ 2 * r.world.objects = r.wide in let deep : length s.homes ≡ r.world.objects = r.deep in let wide : length v.spots ≡ r.world.objects = (r.knows id v at real).wide in
       let now : get_or (set s.words o v.number) o 0 ≡ v.number = get_or-set_same s.words o v.number 0 (omega arith) in
-      let x : Spot E = record { phase = Taken; known = log; front = length log; own = (spot v o).own; told = (spot v o).told } in let w : View E = taken o log v in
+      let x : Spot E = taken_spot o log v in let w : View E = taken o log v in
       let here : spot w o ≡ x = at_spot v o x (omega arith) in record {
         tally = get_or-set_other s.words o (r.world.objects + o) v.number 0 (λ q. omega arith) ∙ ob.tally;
         short = ob.short;

@@ -8,17 +8,14 @@ use crate::held::{Busy, Held};
 use crate::kept::{place_of, turn_by};
 use crate::logged::Logged;
 use crate::pass::Pass;
-use crate::plays::{Give, Publish, Said, Take, Turns};
-use crate::view::View;
-use atomic_table::{Seat, Table};
-use std::alloc::Global;
+use crate::plays::{DeskTable, Give, Publish, Said, Take, TurnSeat};
 use std::marker::{Brand, Model};
 use std::sync::Wait;
 
 /// Objects that threads take in turn.
 #[derive(Drop)]
 pub struct Desk<O: Logged> {
-    pub(crate) table: Table<Option<O>, View<O::Entry>, u32, Turns, Global>,
+    pub(crate) table: DeskTable<O>,
     /// Room for the objects that `close` gives.
     pub(crate) room: Vec<O>,
     /// Room for the fronts that `close` gives: a row for each pass.
@@ -94,7 +91,7 @@ impl<O: Logged> Desk<O> {
     /// Writes the new tally. From this step on the object's history is published.
     fn publish<W: Said<O::Entry>>(
         &self,
-        seat: &mut Seat<Option<O>, View<O::Entry>>,
+        seat: &mut TurnSeat<O>,
         slot: usize,
         value: &O,
     )

@@ -6,6 +6,7 @@ mod desk;
 mod held;
 mod kept;
 mod logged;
+mod opening;
 mod pass;
 mod plays;
 mod view;

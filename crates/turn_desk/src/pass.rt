@@ -1,12 +1,11 @@
 use crate::logged::Logged;
-use crate::view::View;
-use atomic_table::Seat;
+use crate::plays::TurnSeat;
 use std::marker::Model;
 
 /// The right to take turns at one desk. Each thread has its own.
 #[derive(Drop)]
 pub struct Pass<O: Logged> {
-    pub(crate) seat: Seat<Option<O>, View<O::Entry>>,
+    pub(crate) seat: TurnSeat<O>,
     pub(crate) number: u32,
     /// The greatest length of each object's history that this pass has seen.
     pub(crate) fronts: Vec<u32>,

@@ -6,13 +6,18 @@ ghost use Rattle.turn_desk.specs.View.{makes_one, newcomer, both, spent, opening
 
 use crate::logged::Logged;
 use crate::view::View;
-use atomic_table::{Join, Play, Split, TableRule};
+use atomic_table::{Join, Play, Seat, Split, Table, TableRule};
+use std::alloc::Global;
 use std::marker::{Brand, PhantomData};
 
 /// The rule of a desk. The key is the number of objects.
 pub(crate) struct Turns;
 
-impl<O: Logged> TableRule<Option<O>, View<O::Entry>, u32> for Turns {
+pub(crate) type DeskTable<O> = Table<Option<O>, View<<O as Logged>::Entry>, usize, Turns, Global>;
+
+pub(crate) type TurnSeat<O> = Seat<Option<O>, View<<O as Logged>::Entry>>;
+
+impl<O: Logged> TableRule<Option<O>, View<O::Entry>, usize> for Turns {
     ghost holds = { λ _. Desked O.history O.fixed_number O.summed O.between };
 
     ghost first = { λ objects. opening 1 2 0 objects (replicate objects 0) };
