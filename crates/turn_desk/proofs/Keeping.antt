@@ -1,9 +1,10 @@
 -- A pass between two calls, after it took an object and after it gave one back.
-use Rattle.std.proofs.Common.{◌≡◌, ◌≢◌, ℕ, ◌+◌, ◌<◌, ◌≤◌, Bool, cond, zero, suc, List, [], ◌∷◌, ◌++◌, map, length, get_or, set, take, drop, sym, refl, ap, ◌∙◌, subst, arith, Option, Some, None, length-set, length-append, Contains, count_by, sum_by, remove, ◌⊎◌, ⊎_elim, ◌-◌}
-use Rattle.std.proofs.lemmas.List.{map-set, map-append, take-map, drop-map}
+use Rattle.std.proofs.Common.{◌≡◌, ◌≢◌, ℕ, ◌+◌, ◌<◌, ◌≤◌, Bool, cond, zero, suc, List, [], ◌∷◌, ◌++◌, map, length, get_or, set, take, drop, sym, refl, ap, ◌∙◌, subst, arith, Option, Some, None, length-set, length-append, Contains, replicate, count_by, sum_by, remove, ◌⊎◌, ⊎_elim, ◌-◌}
+use Rattle.std.proofs.lemmas.List.{length-replicate, map-set, map-append, take-map, drop-map}
 use Rattle.std.proofs.lemmas.List.Elements.{Contains-append_left, Contains-append_right, Contains-append_cases}
 use Rattle.std.proofs.lemmas.List.Edits.{length-remove}
 use Rattle.std.proofs.lemmas.List.Sums.{sum_by-set, get_or-le-sum_by}
+use Rattle.std.proofs.lemmas.List.Folds.{sum_by-replicate}
 use mathlib.Core.Logic.{dite}
 use native.Mathlib.Decide.{ℕ_discrete}
 use Rattle.atomic_table.specs.Seated.{TableId}
@@ -13,9 +14,10 @@ use Rattle.turn_desk.specs.declared.view.Phase.TheVariants.{Free, Taken, Publish
 use Rattle.turn_desk.specs.declared.view.Spot.{Spot}
 use Rattle.turn_desk.specs.declared.view.View.{View}
 use Rattle.turn_desk.specs.View.{blank, spot, with_spot, taken, published, freed, places}
+use Rattle.turn_desk.specs.Opening.{IsNew}
 use Rattle.turn_desk.specs.Passes.{Keeps, is_free, free_count, empty_slot}
 use Rattle.turn_desk.proofs.Gives.{published_spot}
-use Rattle.turn_desk.proofs.Views.{at_spot, off_spot}
+use Rattle.turn_desk.proofs.Views.{at_spot, off_spot, blank_spot}
 
 module _ {E : Type 0} where
   -- as many objects are free as before, but for the one that was changed
@@ -49,6 +51,10 @@ in_removed : (xs : List ℕ) (i x : ℕ) → i < length xs → get_or xs i 0 ≢
 in_removed xs i x lt ne there = let front = take_front xs i lt in ⊎_elim (λ (a : Contains (take i xs) x). Contains-append_left (take i xs) (drop (suc i) xs) x a)
     (λ (b : Contains (get_or xs i 0 ∷ drop (suc i) xs) x). Contains-append_right (take i xs) (drop (suc i) xs) x (in_others (get_or xs i 0) (drop (suc i) xs) x b ne))
     (Contains-append_cases (take i xs) (get_or xs i 0 ∷ drop (suc i) xs) x (subst (λ (l : List ℕ). Contains l x) front there))
+
+blank_fronts : (E : Type 0) (n : ℕ) → map (λ (x : Spot E). x.front) (replicate n (blank {E = E})) ≡ replicate n 0
+blank_fronts E zero = refl
+blank_fronts E (suc n) = ap (λ (l : List ℕ). 0 ∷ l) (blank_fronts E n)
 
 module _ {O E : Type 0} where
   -- the object o was taken
@@ -109,3 +115,20 @@ module _ {O E : Type 0} where
             let c : length kept + free_count v ≡ table.slots = k.counted in let d = length-remove kept place in_row in omega arith;
         roomy = k.roomy;
       }
+
+  -- a pass that was just made
+  pub keeps_new : (number : ℕ) (fronts kept : List ℕ) (room : ℕ) (table : TableId) (me : Me (Option O) (View E)) → IsNew number table me → fronts ≡ replicate table.slots 0 → kept ≡ [] → table.slots ≤ room → Keeps number fronts kept room table me
+  keeps_new number fronts kept room table me k zeros none roomy' = record {
+    named = sym k.named;
+    real = k.real;
+    within = k.within;
+    few = k.few;
+    alone = k.alone;
+    ready = k.ready;
+    wide = ap length k.spots ∙ length-replicate table.slots blank;
+    seen = zeros ∙ (sym (blank_fronts E table.slots) ∙ ap (map (λ (x : Spot E). x.front)) (sym k.spots));
+    slots = k.slots ∙ sym (ap (map (empty_slot {O = O})) none);
+    covers = λ o busy. absurd (busy (ap (λ (l : List (Spot E)). (get_or l o blank).phase) k.spots ∙ ap (λ (x : Spot E). x.phase) (blank_spot table.slots o)));
+    counted = let a = ap length none in let b = ap (λ (l : List (Spot E)). count_by (λ (x : Spot E). is_free x.phase) l) k.spots in let c = sum_by-replicate (λ (x : Spot E). cond {A = ℕ} (is_free x.phase) 1 0) table.slots blank in omega arith;
+    roomy = roomy';
+  }

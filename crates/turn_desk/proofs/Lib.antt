@@ -8,3 +8,4 @@ pub mod Seats
 pub mod Rows
 pub mod Keeping
 pub mod Vacant
+pub mod Dealing

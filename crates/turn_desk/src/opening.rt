@@ -36,14 +36,19 @@ fn empty_rows(alloc: Global, seats: usize) -> Result<Vec<Vec<u32>>, Memory>
     Ok(rows)
 }
 
-/// Brings the number of passes into the first view.
-fn bring_seats<O: Logged, W: Said<O::Entry>>(table: &DeskTable<O>, seat: &mut TurnSeat<O>)
+/// Brings the number of passes into the first view. It is passed for the proof alone.
+fn bring_seats<O: Logged, W: Said<O::Entry>>(
+    table: &DeskTable<O>,
+    seat: &mut TurnSeat<O>,
+    _seats: u32,
+)
     requires own { seat.old.table_id ≡ table.now.shared.table_id }
     requires word { 0 < table.now.shared.table_id.words }
-    requires few { (0 < W.number) × (W.number ≤ 17) }
+    requires said { W.number ≡ _seats }
+    requires few { (0 < _seats) × (_seats ≤ 17) }
     requires first { (0 < seat.old.me.0.number) × (seat.old.me.0.next ≡ 2) × (seat.old.me.0.seats ≡ 0) }
     ensures own { seat.new.table_id ≡ seat.old.table_id }
-    ensures brought { seat.new.me ≡ (seated W.number seat.old.me.0, seat.old.me.1) }
+    ensures brought { seat.new.me ≡ (seated _seats seat.old.me.0, seat.old.me.1) }
 {
     table.shared.load::<BringSeats<W>>(seat, 0);
 }
@@ -83,5 +88,81 @@ fn put_all<O: Logged>(table: &DeskTable<O>, seat: &mut TurnSeat<O>, mut objects:
 {
     while let Some(value) = objects.pop() {
         put_in::<O, Brand>(table, seat, objects.len(), value);
+    }
+}
+
+/// The pass of a seat that was just made, with room for what it will have.
+fn make_pass<O: Logged>(
+    alloc: Global,
+    seat: TurnSeat<O>,
+    number: u32,
+    objects: usize,
+) -> Result<Pass<O>, Memory>
+    requires made { IsNew number seat.table_id seat.me }
+    requires objects { objects ≡ seat.table_id.slots }
+    ensures { IfOk result (λ p. p ≡ record { desk = record { table = seat.table_id; seats = seat.me.0.seats }; view = seat.me.0 }) }
+{
+    let fronts = Vec::from_elem(alloc, 0, objects)?;
+    let kept = Vec::with_capacity(alloc, objects)?;
+    Ok(Pass {
+        seat,
+        number,
+        fronts,
+        kept,
+    })
+}
+
+/// Makes the passes. The first one's seat makes the others.
+fn deal<O: Logged>(
+    alloc: Global,
+    table: &DeskTable<O>,
+    mut seat: TurnSeat<O>,
+    seats: u32,
+) -> Result<Vec<Pass<O>>, Memory>
+    requires own { (seat.table_id ≡ table.now.shared.table_id) × (0 < table.now.shared.table_id.words) }
+    requires few { (0 < seats) × (seats ≤ 17) }
+    requires first { seat.me ≡ (opening 1 2 seats 0 seat.me.0.fixed, []) }
+    requires wide { length seat.me.0.fixed ≡ table.now.shared.table_id.slots }
+    ensures { IfOk result (λ passes. passes.items ≡ opening_passes (record { table = seat.table_id; seats = seats }) seat.me.0.fixed) }
+{
+    let objects = table.slot_count();
+    let mut passes = Vec::with_capacity(alloc, seats as usize)?;
+    for others in 0..seats - 1 {
+        let other = table.shared.split_seat::<MakeOne>(&mut seat);
+        let pass = make_pass(alloc, other, others + 2, objects)?;
+        passes.push(pass)?;
+    }
+    let first = make_pass(alloc, seat, 1, objects)?;
+    passes.insert(0, first)?;
+    Ok(passes)
+}
+
+impl<O: Logged> Desk<O> {
+    /// A desk of 1 to 1,026 objects and its 1 to 17 passes, numbered from 1, in order.
+    ///
+    /// Takes the room for all that the desk's other calls need.
+    pub fn new(
+        alloc: Global,
+        objects: Vec<O>,
+        seats: u32,
+    ) -> Result<(Desk<O>, Vec<Pass<O>>), Memory>
+        requires objects { (0 < vec_len objects) × (vec_len objects ≤ 1026) }
+        requires seats { (0 < seats) × (seats ≤ 17) }
+        requires fresh { All (λ x. O.history x ≡ []) objects.items }
+        requires between { All (λ x. O.between (O.history x) ≡ true) objects.items }
+        ensures objects { IfOk result (λ made. made.0.table.slots ≡ vec_len objects) }
+        ensures seats { IfOk result (λ made. made.0.seats ≡ seats) }
+        ensures passes { IfOk result
+            (λ made. made.1.items ≡ opening_passes made.0 (map O.fixed_number objects.items)) }
+    {
+        let count = objects.len();
+        let words = free_words(alloc, count, objects[0].summary())?;
+        let room = Vec::with_capacity(alloc, count)?;
+        let rows = empty_rows(alloc, seats as usize)?;
+        let (table, mut seat) = Table::vacant(alloc, words.as_slice(), count, &count)?;
+        bring_seats::<O, Brand>(&table, &mut seat, seats);
+        put_all(&table, &mut seat, objects);
+        let passes = deal(alloc, &table, seat, seats)?;
+        Ok((Desk { table, room, rows }, passes))
     }
 }
