@@ -9,3 +9,6 @@ pub mod Rows
 pub mod Keeping
 pub mod Vacant
 pub mod Dealing
+pub mod AllBack
+pub mod Joining
+pub mod Settled

@@ -20,16 +20,17 @@ use Rattle.turn_desk.proofs.Views.{at_spot, off_spot}
 module _ {E : Type 0} where
   -- what is known stays true in a later world
   pub stays_known : (W W' : World E) (v : View E) → Later W W' → Knows W v → Knows W' v
-  stays_known W W' v l k = record {
-    wide = k.wide ∙ sym l.objects;
-    seats = k.seats ∙ sym l.seats;
-    awaited = k.awaited ∙ sym l.awaited;
-    kinds = k.kinds ∙ sym l.objects;
-    fixed = λ o lt. k.fixed o (let c : W'.objects ≡ W.objects = l.objects in omega arith) ∙ sym (l.fixes o);
-    prefix = λ o. further (spot v o).known (W.logs o) (W'.logs o) (k.prefix o) (l.logs o);
-    front = λ o. let a = k.front o in let b = longer (W.logs o) (W'.logs o) (l.logs o) in (a.0, omega arith);
-    told = λ o i t e. further t.known (W.logs o) (W'.logs o) (k.told o i t e) (l.logs o);
-    refused = λ i f e. let a = k.refused i f e in let c : W'.seats ≡ W.seats = l.seats in (a.0, omega arith, a.2);
+  stays_known W W' v later k = record {
+    wide = k.wide ∙ sym later.objects;
+    seats = k.seats ∙ sym later.seats;
+    awaited = k.awaited ∙ sym later.awaited;
+    kinds = k.kinds ∙ sym later.objects;
+    fixed = λ o lt. k.fixed o (let c : W'.objects ≡ W.objects = later.objects in omega arith) ∙ sym (later.fixes o);
+    handed = λ i l e o lt. k.handed i l e o (let c : W'.objects ≡ W.objects = later.objects in omega arith) ∙ sym (later.fixes o);
+    prefix = λ o. further (spot v o).known (W.logs o) (W'.logs o) (k.prefix o) (later.logs o);
+    front = λ o. let a = k.front o in let b = longer (W.logs o) (W'.logs o) (later.logs o) in (a.0, omega arith);
+    told = λ o i t e. further t.known (W.logs o) (W'.logs o) (k.told o i t e) (later.logs o);
+    refused = λ i f e. let a = k.refused i f e in let c : W'.seats ≡ W.seats = later.seats in (a.0, omega arith, a.2);
   }
 
   -- what is known once more is known of the object o
@@ -42,6 +43,7 @@ module _ {E : Type 0} where
         awaited = k.awaited;
         kinds = k.kinds;
         fixed = k.fixed;
+        handed = k.handed;
         prefix = λ p. dite (ℕ_discrete p o) (λ e. rw (e, here) prefix') (λ ne. rw (off_spot v o p x ne) (k.prefix p));
         front = λ p. dite (ℕ_discrete p o) (λ e. rw (e, here) (low, high)) (λ ne. rw (off_spot v o p x ne) (k.front p));
         told = λ p. dite (ℕ_discrete p o) (λ e. rw (e, here) told') (λ ne. rw (off_spot v o p x ne) (k.told p));
@@ -73,7 +75,7 @@ module _ {O E : Type 0} (history : O → List E) (number : O → ℕ) (summed : 
   Ok = ObjectOk history number summed between
 
   -- no number stands in two views
-  at_most_one : (s : State (Option O) (View E)) (r : R s) (n : ℕ) → sum_by (number_count n) s.views ≤ 1
+  pub at_most_one : (s : State (Option O) (View E)) (r : R s) (n : ℕ) → sum_by (number_count n) s.views ≤ 1
   at_most_one s r n = dite (dec_le r.next n) (λ le. let z = r.else n (inr le) in omega arith)
       (λ nle. dite (ℕ_discrete n 0) (λ e. let z = r.else n (inl e) in omega arith) (λ ne. let z = r.once n (omega arith) (lt_of_not-le nle) in omega arith))
 

@@ -26,6 +26,11 @@ alone_here n k e = ap (λ (b : Bool). 0 + cond {A = ℕ} b 1 0) (eq-eqb k n (sym
 pub alone_else : (n k : ℕ) → n ≢ k → count_by (λ (i : ℕ). i == n) (k ∷ []) ≡ 0
 alone_else n k ne = ap (λ (b : Bool). 0 + cond {A = ℕ} b 1 0) (ne_eqb k n (λ e. ne (sym e)))
 
+-- what holds of the first of a list and of all behind it holds of all
+handed_numbers : (x : List ℕ) (xs : List (List ℕ)) (P : List ℕ → Type 0) → P x → ((k : ℕ) (y : List ℕ) → get_elem? xs k ≡ some y → P y) → (k : ℕ) (y : List ℕ) → get_elem? (x ∷ xs) k ≡ some y → P y
+handed_numbers x xs P first others zero y e = subst P (some-injective x y e) first
+handed_numbers x xs P first others (suc k) y e = others k y e
+
 module _ {E : Type 0} where
   -- a pass that was just made knows nothing of an object
   new_spot : (v : View E) (o : ℕ) → spot (newcomer v) o ≡ blank
@@ -41,6 +46,7 @@ module _ {E : Type 0} where
     awaited = k.awaited;
     kinds = k.kinds;
     fixed = k.fixed;
+    handed = λ i l e. absurd (some-ne-none l (sym e));
     prefix = λ o. subst (λ (x : Spot E). Extends x.known (W.logs o)) (sym (new_spot v o)) (W.logs o, refl);
     front = λ o. subst (λ (x : Spot E). (length x.known ≤ x.front) × (x.front ≤ length (W.logs o))) (sym (new_spot v o)) (omega arith, omega arith);
     told = λ o k t e. absurd (some-ne-none t (sym (subst (λ (x : Spot E). get_elem? x.told k ≡ some t) (new_spot v o) e)));
@@ -68,6 +74,7 @@ module _ {E : Type 0} where
         awaited = a.awaited;
         kinds = a.kinds;
         fixed = a.fixed;
+        handed = λ i l e. ⊎_elim (λ (q : get_elem? v.handed i ≡ some l). a.handed i l q) (λ (q : (j : ℕ) × (get_elem? (w.fixed ∷ w.handed) j ≡ some l)). handed_numbers w.fixed w.handed (λ z. (o : ℕ) → o < W.objects → get_or z o 0 ≡ W.fixes o) b.fixed b.handed q.0 l q.1) (at_either v.handed (w.fixed ∷ w.handed) i l e);
         prefix = λ o. dite (dec_le (o + 1) W.objects) (λ lt. subst (λ (x : Spot E). Extends x.known (W.logs o)) (sym (here o (omega arith))) (a.prefix o))
             (λ nlt. subst (λ (x : Spot E). Extends x.known (W.logs o)) (sym (past o (λ l. nlt (omega arith)))) (W.logs o, refl));
         front = λ o. let x = a.front o in let y = b.front o in dite (dec_le (o + 1) W.objects)
@@ -83,10 +90,10 @@ module _ {E : Type 0} where
         refused = λ k f e. ⊎_elim (λ (q : get_elem? v.refused k ≡ some f). a.refused k f q) (λ (q : (i : ℕ) × (get_elem? w.refused i ≡ some f)). b.refused q.0 f q.1) (at_either v.refused w.refused k f e);
       }
 
-  both_own : (W : World E) (v w : View E) (o q : ℕ) → o < W.objects → Knows W v → Knows W w → own_count o q (both v w) ≡ own_count o q v + own_count o q w
-  both_own W v w o q lt a b = ap (λ (x : Spot E). count_by (λ (z : Own). z.place == q) x.own) (both_spot W v w o lt a.wide b.wide) ∙ sum_by-append (λ (z : Own). cond (z.place == q) 1 0) (spot v o).own (spot w o).own
+  pub both_own_at : (v w : View E) (o q : ℕ) → o < length v.spots → o < length w.spots → own_count o q (both v w) ≡ own_count o q v + own_count o q w
+  both_own_at v w o q a b = ap (λ (x : Spot E). count_by (λ (z : Own). z.place == q) x.own) (joined_spot w.number v.spots w.spots o a b) ∙ sum_by-append (λ (z : Own). cond (z.place == q) 1 0) (spot v o).own (spot w o).own
 
-  both_numbers : (v w : View E) (n : ℕ) → number_count n (both v w) ≡ number_count n v + number_count n w
+  pub both_numbers : (v w : View E) (n : ℕ) → number_count n (both v w) ≡ number_count n v + number_count n w
   both_numbers v w n = sum_by-append (λ (k : ℕ). cond (k == n) 1 0) v.numbers w.numbers
 
   -- a sum over the views once one of them was cut in two
@@ -153,7 +160,7 @@ module _ {O E : Type 0} (history : O → List E) (number : O → ℕ) (summed : 
             (at_end views right u j e);
         knows = λ j u e p. ⊎_elim
             (λ (b : get_elem? views j ≡ some u). ⊎_elim
-            (λ (t : (j ≡ id) × (left ≡ u)). subst (Knows r.world) t.1 (record { wide = knows.wide; seats = knows.seats; awaited = knows.awaited; kinds = knows.kinds; fixed = knows.fixed; prefix = knows.prefix; front = knows.front; told = knows.told; refused = knows.refused }))
+            (λ (t : (j ≡ id) × (left ≡ u)). subst (Knows r.world) t.1 (record { wide = knows.wide; seats = knows.seats; awaited = knows.awaited; kinds = knows.kinds; fixed = knows.fixed; handed = knows.handed; prefix = knows.prefix; front = knows.front; told = knows.told; refused = knows.refused }))
             (λ (t : (j ≢ id) × (get_elem? s.views j ≡ some u)). r.knows j u t.1 p)
             (at_set s.views id j left u b))
             (λ (b : (j ≡ length views) × (right ≡ u)). subst (Knows r.world) b.1 (knows_nothing r.world v knows))
@@ -187,8 +194,8 @@ module _ {O E : Type 0} (history : O → List E) (number : O → ℕ) (summed : 
             (λ (q : (j ≢ id) × (get_elem? s.views j ≡ some u)). ob.busy j u q.1 p)
             (at_set s.views id j b u t.1))
             (at_set views other j spent u e);
-        once = λ q low high. join_sum (own_count o q) s.views id other v w b spent at there (both_own r.world v w o q lt a c) refl ∙ ob.once q low high;
-        else = λ q out. join_sum (own_count o q) s.views id other v w b spent at there (both_own r.world v w o q lt a c) refl ∙ ob.else q out;
+        once = λ q low high. join_sum (own_count o q) s.views id other v w b spent at there (both_own_at v w o q (let x : length v.spots ≡ r.world.objects = a.wide in omega arith) (let x : length w.spots ≡ r.world.objects = c.wide in omega arith)) refl ∙ ob.once q low high;
+        else = λ q out. join_sum (own_count o q) s.views id other v w b spent at there (both_own_at v w o q (let x : length v.spots ≡ r.world.objects = a.wide in omega arith) (let x : length w.spots ≡ r.world.objects = c.wide in omega arith)) refl ∙ ob.else q out;
       }
 
   pub can_join : (id other : ℕ) (v w : View E) → 0 < v.number → 0 < w.number → ((o : ℕ) → (spot w o).phase ≡ Free) → Joins Rule id v other w (both v w) spent

@@ -2,7 +2,7 @@
 use Rattle.std.proofs.Common.{◌≡◌, ◌≢◌, ◌⊎◌, ℕ, ◌+◌, ◌*◌, ◌<◌, ◌≤◌, Bool, eqb, cond, List, [], ◌∷◌, length, get_or, set, sym, refl, ap, ◌∙◌, subst, ⊎_elim, arith, Option, length-set, get_or-set_other, get_or-set_same, eq-eqb, ne_eqb}
 use Rattle.std.proofs.lemmas.List.{set-get_or}
 use mathlib.Core.Logic.{dite}
-use mathlib.Core.Option.{some, none}
+use mathlib.Core.Option.{some, none, some-ne-none}
 use native.Mathlib.Decide.{ℕ_discrete}
 use lib.ListN.{get_elem?}
 use Rattle.atomic_table.specs.Table.{State, Me, step, keeps, Allows}
@@ -33,18 +33,20 @@ module _ {E : Type 0} where
     awaited = k.awaited;
     kinds = k.kinds;
     fixed = k.fixed;
+    handed = k.handed;
     prefix = k.prefix;
     front = k.front;
     told = k.told;
     refused = λ i f e. let a = k.refused i f e in let b : v.seats ≡ W.seats = k.seats in absurd (omega arith);
   }
 
-  knows_object : (W : World E) (v : View E) (o number : ℕ) → o < W.objects → Knows W v → Knows (with_object W o number) (brought o number v)
-  knows_object W v o number lt k = let kinds : length v.fixed ≡ W.objects = k.kinds in record {
+  knows_object : (W : World E) (v : View E) (o number : ℕ) → o < W.objects → v.handed ≡ [] → Knows W v → Knows (with_object W o number) (brought o number v)
+  knows_object W v o number lt unhanded k = let kinds : length v.fixed ≡ W.objects = k.kinds in record {
     wide = k.wide;
     seats = k.seats;
     awaited = refl;
     kinds = length-set v.fixed o number ∙ k.kinds;
+    handed = λ i l e p lt'. absurd (some-ne-none l (sym (subst (λ (z : List (List ℕ)). get_elem? z i ≡ some l) unhanded e)));
     fixed = λ p l. dite (ℕ_discrete p o)
         (λ e. subst (λ (q : ℕ). get_or (set v.fixed o number) q 0 ≡ cond (eqb q o) number (W.fixes q)) (sym e) (get_or-set_same v.fixed o number 0 (omega arith) ∙ sym (ap (λ (b : Bool). cond b number (W.fixes o)) (eq-eqb o o refl))))
         (λ ne. get_or-set_other v.fixed o p number 0 ne ∙ (k.fixed p l ∙ sym (ap (λ (b : Bool). cond b number (W.fixes p)) (ne_eqb p o ne))));
@@ -93,9 +95,9 @@ module _ {O E : Type 0} (history : O → List E) (number : O → ℕ) (summed : 
         else = λ q out. same_sum (own_count o q) s.views id v w at refl ∙ ob.else q out;
       }
 
-  pub can_bring_number : (slots o number' id : ℕ) (m : Me (Option O) (View E)) → o < slots → (spot m.0 o).phase ≢ Free → m.0.next ≡ 2 → m.0.awaited ≡ o + 1
+  pub can_bring_number : (slots o number' id : ℕ) (m : Me (Option O) (View E)) → o < slots → (spot m.0 o).phase ≢ Free → m.0.next ≡ 2 → m.0.awaited ≡ o + 1 → m.0.handed ≡ []
       → Allows Rule slots id m 0 (λ n. n) (number_brought o number' (step slots 0 0 0 none) m)
-  can_bring_number slots o number' id m lt busy two last s r deep at _ =
+  can_bring_number slots o number' id m lt busy two last unhanded s r deep at _ =
       let count : length s.homes ≡ r.world.objects = r.deep in let inside : o < r.world.objects = omega arith in let real = ((r.objects o inside).busy id m.0 at busy).1 in let knows = r.knows id m.0 at real in
       let awaited : m.0.awaited ≡ r.world.awaited = knows.awaited in let w : View E = brought o number' m.0 in let W' : World E = with_object r.world o number' in (
         w,
@@ -105,7 +107,7 @@ module _ {O E : Type 0} (history : O → List E) (number : O → ℕ) (summed : 
             (restated history number summed between s r W' o id m.0 w s.words s.homes at real (record { number = refl; numbers = refl; next = refl; spots = λ p _. refl })
             (record { objects = refl; within = r.within; most = r.most }) refl refl
             (λ p ne l. record { turn = refl; tally = refl; slot = refl; log = refl; fix = ap (λ (b : Bool). cond b number' (r.world.fixes p)) (ne_eqb p o ne); awaits = λ z. omega arith; has = λ z. omega arith })
-            (knows_object r.world m.0 o number' inside knows) (λ j u ne there b. absurd (alone history number summed between s r id m.0 at real two j u ne there b))
+            (knows_object r.world m.0 o number' inside unhanded knows) (λ j u ne there b. absurd (alone history number summed between s r id m.0 at real two j u ne there b))
             (λ _. object_brought s r o id number' m.0 inside at busy)),
         refl,
       )

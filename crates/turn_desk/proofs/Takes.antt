@@ -46,6 +46,7 @@ module _ {E : Type 0} where
     awaited = k.awaited;
     kinds = k.kinds;
     fixed = k.fixed;
+    handed = k.handed;
     prefix = k.prefix;
     front = k.front;
     told = k.told;

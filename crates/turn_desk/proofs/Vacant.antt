@@ -61,6 +61,7 @@ module _ {E : Type 0} where
     awaited = refl;
     kinds = length-replicate objects 0;
     fixed = λ o lt. get_or-replicate objects o 0 0 lt;
+    handed = λ k l e. absurd (some-ne-none l (sym e));
     prefix = λ o. subst (λ (x : Spot E). Extends x.known []) (sym (first_spot objects o)) ([], refl);
     front = λ o. subst (λ (x : Spot E). (length x.known ≤ x.front) × (x.front ≤ 0)) (sym (first_spot objects o)) (omega arith, omega arith);
     told = λ o k t e. absurd (some-ne-none t (sym (subst (λ (x : Spot E). get_elem? x.told k ≡ some t) (first_spot objects o) e)));
@@ -133,4 +134,4 @@ module _ {E : Type 0} where
       let spots : set (set v.spots n (taken_spot n [] v)) n y ≡ replicate (length (replicate n 0 ++ x ∷ done)) blank =
           set_twice v.spots n (taken_spot n [] v) y ∙ (ap (set v.spots n) (nothing ∙ sym (blank_spot many n)) ∙ (set-get_or v.spots n blank ∙ ap (λ (k : ℕ). replicate k blank) same)) in
       let numbers = placed n x done in
-      λ i. record { number = 1; numbers = 1 ∷ []; seats = seats; next = 2; awaited = n; fixed = numbers i; spots = spots i; refused = [] }
+      λ i. record { number = 1; numbers = 1 ∷ []; seats = seats; next = 2; awaited = n; fixed = numbers i; handed = []; spots = spots i; refused = [] }

@@ -42,6 +42,7 @@ module _ {E : Type 0} where
     pub awaited : v.awaited ≡ W.awaited
     pub kinds : length v.fixed ≡ W.objects
     pub fixed : (o : ℕ) → o < W.objects → slice_index v.fixed o ≡ W.fixes o
+    pub handed : (k : ℕ) (numbers : List ℕ) → get_elem? v.handed k ≡ some numbers → (o : ℕ) → o < W.objects → slice_index numbers o ≡ W.fixes o
     pub prefix : (o : ℕ) → Extends (spot v o).known (W.logs o)
     pub front : (o : ℕ) → (length (spot v o).known ≤ (spot v o).front) × ((spot v o).front ≤ length (W.logs o))
     pub told : (o k : ℕ) (t : Told E) → get_elem? (spot v o).told k ≡ some t → Extends t.known (W.logs o)

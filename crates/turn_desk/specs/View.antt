@@ -67,7 +67,7 @@ module _ {E : Type 0} where
 
   -- what the pass that was made knows
   abbrev pub newcomer : View E → View E
-  newcomer v = record { number = v.next; numbers = v.next ∷ []; seats = v.seats; next = 0; awaited = v.awaited; fixed = v.fixed; spots = replicate (length v.spots) blank; refused = [] }
+  newcomer v = record { number = v.next; numbers = v.next ∷ []; seats = v.seats; next = 0; awaited = v.awaited; fixed = v.fixed; handed = []; spots = replicate (length v.spots) blank; refused = [] }
 
   -- what is known of one object once the pass of this number is joined in
   abbrev pub joined : ℕ → Spot E → Spot E → Spot E
@@ -81,12 +81,12 @@ module _ {E : Type 0} where
 
   -- the second is joined into the first, and hands over what it has
   abbrev pub both : View E → View E → View E
-  both v w = record v { numbers = v.numbers ++ w.numbers; spots = all_joined w.number v.spots w.spots; refused = v.refused ++ w.refused }
+  both v w = record v { numbers = v.numbers ++ w.numbers; handed = v.handed ++ w.fixed ∷ w.handed; spots = all_joined w.number v.spots w.spots; refused = v.refused ++ w.refused }
 
   -- what is left of a pass that was joined into another
   abbrev pub spent : View E
-  spent = record { number = 0; numbers = []; seats = 0; next = 0; awaited = 0; fixed = []; spots = []; refused = [] }
+  spent = record { number = 0; numbers = []; seats = 0; next = 0; awaited = 0; fixed = []; handed = []; spots = []; refused = [] }
 
   -- what a pass knows that was just made, of so many objects with these fixed numbers, none of which is awaited
   abbrev pub opening : ℕ → ℕ → ℕ → ℕ → List ℕ → View E
-  opening number next seats awaited fixed = record { number = number; numbers = number ∷ []; seats = seats; next = next; awaited = awaited; fixed = fixed; spots = replicate (length fixed) blank; refused = [] }
+  opening number next seats awaited fixed = record { number = number; numbers = number ∷ []; seats = seats; next = next; awaited = awaited; fixed = fixed; handed = []; spots = replicate (length fixed) blank; refused = [] }

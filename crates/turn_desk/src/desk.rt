@@ -23,14 +23,14 @@ pub struct Desk<O: Logged> {
 }
 
 impl<O: Logged> Model for Desk<O> {
-    ghost use Rattle.std.specs.Prelude.{◌≡◌, ◌≤◌, ◌*◌, [], length, vec_capacity};
+    ghost use Rattle.std.specs.Prelude.{◌≡◌, ◌<◌, ◌≤◌, ◌*◌, [], length, vec_capacity};
     ghost use Rattle.turn_desk.specs.Passes.{DeskId};
 
     ghost Value = { DeskId };
 
     ghost view = { λ d. record { table = d.table.shared.table_id; seats = length d.rows.items } };
 
-    ghost invariant = { λ d. (d.table.shared.table_id.words ≡ 2 * d.table.shared.table_id.slots) × (d.room.items ≡ []) × (d.table.shared.table_id.slots ≤ vec_capacity d.room) };
+    ghost invariant = { λ d. (d.table.shared.table_id.words ≡ 2 * d.table.shared.table_id.slots) × (d.room.items ≡ []) × (d.table.shared.table_id.slots ≤ vec_capacity d.room) × (0 < length d.rows.items) × (0 < d.table.shared.table_id.slots) };
 }
 
 impl<O: Logged> Desk<O> {

@@ -64,7 +64,7 @@ fn put_in<O: Logged, W: Said<O::Entry>>(
     requires object { (object < table.now.shared.table_id.slots) × (table.now.shared.table_id.words ≡ 2 * table.now.shared.table_id.slots) }
     requires said { (W.object ≡ object) × (W.number ≡ O.fixed_number value) }
     requires fresh { O.history value ≡ [] }
-    requires first { (seat.old.me.0.number ≡ 1) × (seat.old.me.0.next ≡ 2) × (seat.old.me.0.awaited ≡ object + 1) }
+    requires first { (seat.old.me.0.number ≡ 1) × (seat.old.me.0.next ≡ 2) × (seat.old.me.0.awaited ≡ object + 1) × (seat.old.me.0.handed ≡ []) }
     requires wide { (length seat.old.me.0.spots ≡ table.now.shared.table_id.slots) × (length seat.old.me.0.fixed ≡ table.now.shared.table_id.slots) }
     requires free { (spot seat.old.me.0 object).phase ≡ Free }
     ensures own { seat.new.table_id ≡ seat.old.table_id }

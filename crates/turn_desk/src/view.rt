@@ -59,6 +59,8 @@ pub struct View<E> {
     pub awaited: u64,
     /// The fixed number of each object.
     pub fixed: LinkedList<u64>,
+    /// The same, as each pass that was joined in had them.
+    pub handed: LinkedList<LinkedList<u64>>,
     pub spots: LinkedList<Spot<E>>,
     pub refused: LinkedList<Refusal>,
 }

@@ -17,7 +17,7 @@ load-requires g c = let l = g.O.Logged in let q = c.requires in let o = c.args.o
     let inside : o < length v.spots = omega arith in
     let here = ap (λ m. spot m.0 o) took ∙ at_spot v o (taken_spot o [] v) inside in
     (search rules, omega arith, rw (q.said.0, q.said.1) (can_bring_number l.history l.fixed_number l.summed l.between _ o (l.fixed_number c.args.value) seat.id seat.me q.object.0
-    (subst (λ x. x.phase ≢ Free) (sym here) taken_is_busy) (ap (λ m. m.0.next) took ∙ q.first.1) (ap (λ m. m.0.awaited) took ∙ q.first.2)))
+    (subst (λ x. x.phase ≢ Free) (sym here) taken_is_busy) (ap (λ m. m.0.next) took ∙ q.first.1) (ap (λ m. m.0.awaited) took ∙ q.first.2) (ap (λ m. m.0.handed) took ∙ q.first.3)))
 
 pub swap-requires : goal.swap-requires
 swap-requires g c = let l = g.O.Logged in let q = c.requires in let o = c.args.object in let value = c.args.value in let v = c.args.seat.now.me.0 in let seat = c.exchange.new.seat in
