@@ -17,6 +17,8 @@ use Rattle.turn_desk.specs.View.{blank, spot, with_spot, taken, published, freed
 use Rattle.turn_desk.specs.Opening.{IsNew}
 use Rattle.turn_desk.specs.Passes.{Keeps, is_free, free_count, empty_slot}
 use Rattle.turn_desk.proofs.Gives.{published_spot}
+use Rattle.turn_desk.specs.Steps.{HasTaken}
+use Rattle.turn_desk.proofs.Takes.{taken_spot}
 use Rattle.turn_desk.proofs.Views.{at_spot, off_spot, blank_spot}
 
 module _ {E : Type 0} where
@@ -132,3 +134,8 @@ module _ {O E : Type 0} where
     counted = let a = ap length none in let b = ap (λ (l : List (Spot E)). count_by (λ (x : Spot E). is_free x.phase) l) k.spots in let c = sum_by-replicate (λ (x : Spot E). cond {A = ℕ} (is_free x.phase) 1 0) table.slots blank in omega arith;
     roomy = roomy';
   }
+
+  -- an object that was taken is the pass's
+  pub keeps_here : (number : ℕ) (fronts kept : List ℕ) (room : ℕ) (table : TableId) (me : Me (Option O) (View E)) (o : ℕ) (log : List E) (v : View E) → Keeps number fronts kept room table me → o < table.slots → v ≡ taken o log me.0 → HasTaken v o log
+  keeps_here number fronts kept room table me o log v k lt e = let wide : length me.0.spots ≡ table.slots = k.wide in let here = ap (λ (w : View E). spot w o) e ∙ at_spot me.0 o (taken_spot o log me.0) (omega arith) in
+      record { phase = ap (λ (x : Spot E). x.phase) here; known = ap (λ (x : Spot E). x.known) here }

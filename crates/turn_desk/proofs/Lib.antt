@@ -12,3 +12,4 @@ pub mod Dealing
 pub mod AllBack
 pub mod Joining
 pub mod Settled
+pub mod Ready

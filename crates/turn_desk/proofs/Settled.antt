@@ -17,12 +17,12 @@ use Rattle.turn_desk.proofs.Lists.{at_below, sum_at}
 use Rattle.turn_desk.proofs.AllBack.{IsHome, all_home, numbers_apart, numbered, placed_row, placed_length}
 
 module _ {A : Type 0} where
-  some_at : (xs : List A) (k : ℕ) → k < length xs → (x : A) × (get_elem? xs k ≡ some x)
+  pub some_at : (xs : List A) (k : ℕ) → k < length xs → (x : A) × (get_elem? xs k ≡ some x)
   some_at [] k lt = absurd (omega arith)
   some_at (x ∷ xs) zero lt = (x, refl)
   some_at (x ∷ xs) (suc k) lt = some_at xs k (omega arith)
 
-  or_at : (xs : List A) (k : ℕ) (d : A) → k < length xs → get_elem? xs k ≡ some (get_or xs k d)
+  pub or_at : (xs : List A) (k : ℕ) (d : A) → k < length xs → get_elem? xs k ≡ some (get_or xs k d)
   or_at [] k d lt = absurd (omega arith)
   or_at (x ∷ xs) zero d lt = refl
   or_at (x ∷ xs) (suc k) d lt = or_at xs k d (omega arith)
@@ -32,7 +32,7 @@ module _ {A : Type 0} where
   map_at f (y ∷ ys) zero x e = ap (λ (z : A). some (f z)) (some-injective y x e)
   map_at f (y ∷ ys) (suc k) x e = map_at f ys k x e
 
-  map_or : {B : Type 0} (f : A → B) (xs : List A) (k : ℕ) (x : A) (d : B) → get_elem? xs k ≡ some x → get_or (map f xs) k d ≡ f x
+  pub map_or : {B : Type 0} (f : A → B) (xs : List A) (k : ℕ) (x : A) (d : B) → get_elem? xs k ≡ some x → get_or (map f xs) k d ≡ f x
   map_or f [] k x d e = absurd (some-ne-none x (sym e))
   map_or f (y ∷ ys) zero x d e = ap f (some-injective y x e)
   map_or f (y ∷ ys) (suc k) x d e = map_or f ys k x d e

@@ -1,12 +1,12 @@
 -- What stands once all passes of a desk are given back.
-use Rattle.std.specs.Prelude.{◌≡◌, ℕ, ◌-◌, ◌<◌, ◌≤◌, List, [], ◌∷◌, ◌++◌, map, length, slice_index, slice_index_or, slice_get, slice_set, sum_by, Option, Some}
+use Rattle.std.specs.Prelude.{◌≡◌, ℕ, ◌+◌, ◌-◌, ◌<◌, ◌≤◌, List, [], ◌∷◌, ◌++◌, map, length, slice_index, slice_index_or, slice_get, slice_set, sum_by, Option, Some}
 use lib.ListN.{get_elem?}
 use mathlib.Core.Option.{some}
 use Rattle.atomic_table.specs.Table.{Me}
 use Rattle.turn_desk.specs.declared.view.Phase.TheVariants.{Free}
 use Rattle.turn_desk.specs.declared.view.Spot.{Spot}
 use Rattle.turn_desk.specs.declared.view.View.{View}
-use Rattle.turn_desk.specs.Passes.{Standing}
+use Rattle.turn_desk.specs.Passes.{DeskId, Standing}
 use Rattle.turn_desk.specs.View.{spot, own_count, both}
 
 -- the front with which the pass of this number was given back, at the object o
@@ -67,3 +67,11 @@ pub record Gathers {O E : Type 0} (seats slots : ℕ) (all left : List (View E))
   pub joined : me ≡ (gathered base others, [])
   pub back : (k : ℕ) (v : View E) → get_elem? (others ++ base ∷ []) k ≡ some v → IsBack seats slots v
   pub shown : rows ≡ placed before (others ++ base ∷ [])
+
+-- a pass of this desk that has no object
+abbrev pub IsReady : {E : Type 0} → DeskId → Standing E → Type 0
+IsReady desk p = (p.desk ≡ desk) × HoldsNothing p.view
+
+-- the passes are numbered from 1, in order
+abbrev pub AreNumbered : {E : Type 0} → List (Standing E) → Type 0
+AreNumbered {E} passes = (k : ℕ) (d : Standing E) → k < length passes → (slice_index_or passes k d).view.number ≡ k + 1

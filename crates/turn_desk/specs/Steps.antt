@@ -3,6 +3,7 @@ use Rattle.std.specs.Prelude.{◌≡◌, ◌≢◌, ℕ, ◌+◌, ◌<◌, ◌�
 use mathlib.Core.Option.{some}
 use lib.ListN.{get_elem?}
 use Rattle.atomic_table.specs.Table.{Me, Step, rest}
+use Rattle.turn_desk.specs.declared.view.Phase.TheVariants.{Taken}
 use Rattle.turn_desk.specs.declared.view.Refusal.{Refusal}
 use Rattle.turn_desk.specs.declared.view.Told.{Told}
 use Rattle.turn_desk.specs.declared.view.View.{View}
@@ -13,6 +14,11 @@ pub record Continues {E : Type 0} (v : View E) (o : ℕ) (log : List E) : Type 0
   pub known : Extends (spot v o).known log
   pub front : (spot v o).front ≤ length log
   pub told : (k : ℕ) (t : Told E) → get_elem? (spot v o).told k ≡ some t → Extends t.known log
+
+-- the pass has the object o with this history, and has published nothing since
+pub record HasTaken {E : Type 0} (v : View E) (o : ℕ) (log : List E) : Type 0 where
+  pub phase : (spot v o).phase ≡ Taken
+  pub known : (spot v o).known ≡ log
 
 -- the number of one of the desk's passes, and not this one's
 pub record IsOther {E : Type 0} (v : View E) (n : ℕ) : Type 0 where

@@ -1,7 +1,7 @@
 ghost use Rattle.std.specs.Prelude.{◌≡◌, ◌≢◌, ◌<◌, ◌≤◌, ◌^◌, true, IfOk, IfErr, length};
 ghost use Rattle.turn_desk.specs.declared.view.Phase.TheVariants.{Free, Taken};
 ghost use Rattle.turn_desk.specs.View.{Extends, spot, taken, refused, published, freed};
-ghost use Rattle.turn_desk.specs.Steps.{Continues, IsOther, TakesAfterRefusals};
+ghost use Rattle.turn_desk.specs.Steps.{Continues, HasTaken, IsOther, TakesAfterRefusals};
 ghost use Rattle.turn_desk.specs.Passes.{fixed_at};
 
 use crate::held::{Busy, Held};
@@ -34,11 +34,13 @@ impl<O: Logged> Model for Desk<O> {
 }
 
 impl<O: Logged> Desk<O> {
-    /// Takes an object, if no other pass has it, in one atomic step.
+    /// Takes an object, if no other pass has it, in one atomic step. Its history is neither copied nor
+    /// walked.
     ///
     /// # Errors
     ///
     /// The number of the pass that has it.
+    #[tactic(auto, using(crate::proofs::Keeping::keeps_here))]
     pub fn try_hold(&self, pass: &mut Pass<O>, object: u32) -> Result<Held<O>, Busy>
         requires own { pass.old.desk ≡ self.now }
         requires object { object < self.now.table.slots }
@@ -46,6 +48,7 @@ impl<O: Logged> Desk<O> {
         ensures own { pass.new.desk ≡ pass.old.desk }
         ensures object { IfOk result (λ h. h.object ≡ object) }
         ensures taken { IfOk result (λ h. pass.new.view ≡ taken object (O.history h.value) pass.old.view) }
+        ensures kept { IfOk result (λ h. HasTaken pass.new.view object (O.history h.value)) }
         ensures seen { IfOk result (λ h. Continues pass.old.view object (O.history h.value)) }
         ensures replay { IfOk result (λ h. h.value ≡ O.replay (fixed_at pass.old.view object) (O.history h.value)) }
         ensures fixed { IfOk result (λ h. O.fixed_number h.value ≡ fixed_at pass.old.view object) }
@@ -74,6 +77,7 @@ impl<O: Logged> Desk<O> {
         ensures own { pass.new.desk ≡ pass.old.desk }
         ensures object { result.object ≡ object }
         ensures taken { TakesAfterRefusals pass.old.view object (O.history result.value) pass.new.view }
+        ensures kept { HasTaken pass.new.view object (O.history result.value) }
         ensures seen { Continues pass.old.view object (O.history result.value) }
         ensures replay { result.value ≡ O.replay (fixed_at pass.old.view object) (O.history result.value) }
         ensures fixed { O.fixed_number result.value ≡ fixed_at pass.old.view object }

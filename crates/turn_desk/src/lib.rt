@@ -16,6 +16,8 @@ mod logged;
 mod opening;
 mod pass;
 mod plays;
+#[cfg(test)]
+mod tests;
 mod view;
 
 pub use bell::Bell;
