@@ -138,7 +138,7 @@ module _ {E : Type 0} where
       let one = back 0 v refl in let other = back (suc k) u e in let rest : Back seats slots vs = λ k u e. back (suc k) u e in
       let fewer : (n : ℕ) → sum_by (number_count n) vs ≤ 1 = λ n. (let a = sum_by-cons (number_count n) v vs in let b = once n in omega arith) in
       let apart : u.number ≢ v.number = λ q. (let a = sum_by-cons (number_count v.number) v vs in let b = once v.number in let c = numbered seats slots v one in
-          let d : number_count v.number u ≡ 1 = ap (λ (n : ℕ). number_count n u) (sym q) ∙ numbered seats slots u other in let f = sum_at (number_count v.number) vs k u e in let z : ⊥ = omega arith in z) in
+      let d : number_count v.number u ≡ 1 = ap (λ (n : ℕ). number_count n u) (sym q) ∙ numbered seats slots u other in let f = sum_at (number_count v.number) vs k u e in let z : ⊥ = omega arith in z) in
       let low : 0 < v.number = one.real in let low' : 0 < u.number = other.real in
       get_or-set_other (placed rows vs) (v.number - 1) (u.number - 1) (fronts_of v) [] (λ q. apart (omega arith)) ∙ placed_row seats slots rows vs long rest fewer k u e
 

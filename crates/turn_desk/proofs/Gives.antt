@@ -20,7 +20,6 @@ use Rattle.turn_desk.proofs.Views.{at_spot, off_spot, taken_is_busy, published_i
 
 -- the new places stand once each among the places that were filled
 places_outside : (seat after n q : ℕ) → (q ≤ after) ⊎ (after + n < q) → count_by (λ (w : Own). w.place == q) (places seat after n) ≡ 0
-
 places_outside seat after zero q out = refl
 places_outside seat after (suc n) q out =
     let tail = places_outside seat (after + 1) n q (⊎_elim (λ (l : q ≤ after). inl (omega arith)) (λ (g : after + suc n < q). inr (omega arith)) out) in

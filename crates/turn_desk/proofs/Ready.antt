@@ -15,6 +15,7 @@ use Rattle.turn_desk.specs.Passes.{DeskId, Standing}
 use Rattle.turn_desk.specs.Opening.{opening_pass, opening_passes}
 use Rattle.turn_desk.specs.Closing.{HoldsNothing, IsReady, AreNumbered, numbers_of}
 use Rattle.turn_desk.proofs.Gives.{published_spot, freed_spot}
+use Rattle.turn_desk.proofs.Lists.{all_front, all_last}
 use Rattle.turn_desk.proofs.Settled.{some_at, or_at, map_or}
 use Rattle.turn_desk.proofs.Takes.{taken_spot}
 use Rattle.turn_desk.proofs.Views.{at_spot, off_spot, blank_spot}
@@ -44,6 +45,20 @@ module _ {E : Type 0} where
   turned_idle v w u o log log' idle t e p = dite (ℕ_discrete p o) (λ q. subst (λ (k : ℕ). (spot u k).phase ≡ Free) (sym q) (released_free w u o log' e))
       (λ ne. ap (λ (x : Spot E). x.phase) (released_else w u o p log' e ne ∙ takes_else v w o p log t ne) ∙ idle p)
 
+-- a pass that had three objects and gave them back has none
+module _ {E : Type 0} where
+  pub released_all : (v w u x : View E) (a b c : ℕ) (la lb lc : List E) → w ≡ freed a (published a la v) → u ≡ freed b (published b lb w) → x ≡ freed c (published c lc u) → ((p : ℕ) → p ≢ a → p ≢ b → p ≢ c → (spot v p).phase ≡ Free) → HoldsNothing x
+  released_all v w u x a b c la lb lc e f g others p = dite (ℕ_discrete p c) (λ q. subst (λ (k : ℕ). (spot x k).phase ≡ Free) (sym q) (released_free u x c lc g))
+      (λ nc. ap (λ (z : Spot E). z.phase) (released_else u x c p lc g nc) ∙ dite (ℕ_discrete p b) (λ q. subst (λ (k : ℕ). (spot u k).phase ≡ Free) (sym q) (released_free w u b lb f))
+      (λ nb. ap (λ (z : Spot E). z.phase) (released_else w u b p lb f nb) ∙ dite (ℕ_discrete p a) (λ q. subst (λ (k : ℕ). (spot w k).phase ≡ Free) (sym q) (released_free v w a la e))
+      (λ na. ap (λ (z : Spot E). z.phase) (released_else v w a p la e na) ∙ others p na nb nc)))
+
+  -- the last of some passes that are ready, and those before it
+  pub ready_last : (desk : DeskId) (passes others : List (Standing E)) (p : Standing E) → All (IsReady desk) passes → passes ≡ others ++ p ∷ [] → IsReady desk p
+  ready_last desk passes others p ready e = all_last (IsReady desk) others p (subst (All (IsReady desk)) e ready)
+
+  pub ready_front : (desk : DeskId) (passes others : List (Standing E)) (p : Standing E) → All (IsReady desk) passes → passes ≡ others ++ p ∷ [] → All (IsReady desk) others
+  ready_front desk passes others p ready e = all_front (IsReady desk) others p (subst (All (IsReady desk)) e ready)
 
 -- the passes of a desk that was just made have no object
 opening_idle : (E : Type 0) (number next seats awaited : ℕ) (fixed : List ℕ) → HoldsNothing (opening {E = E} number next seats awaited fixed)

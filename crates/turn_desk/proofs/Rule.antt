@@ -81,9 +81,10 @@ module _ {O E : Type 0} (history : O → List E) (number : O → ℕ) (summed : 
 
   -- a number that stands in a view was given
   pub given : (s : State (Option O) (View E)) (r : R s) (j n : ℕ) (u : View E) → get_elem? s.views j ≡ some u → 0 < number_count n u → (0 < n) × (n < r.next)
-  given s r j n u at some_there = let a = sum_at (number_count n) s.views j u at in
-      (dite (ℕ_discrete n 0) (λ e. let z = r.else n (inl e) in absurd (omega arith)) (λ ne. omega arith),
-      dite (dec_le r.next n) (λ le. let z = r.else n (inr le) in absurd (omega arith)) (λ nle. lt_of_not-le nle))
+  given s r j n u at some_there = let a = sum_at (number_count n) s.views j u at in (
+    dite (ℕ_discrete n 0) (λ e. let z = r.else n (inl e) in absurd (omega arith)) (λ ne. omega arith),
+    dite (dec_le r.next n) (λ le. let z = r.else n (inr le) in absurd (omega arith)) (λ nle. lt_of_not-le nle),
+  )
 
   -- who has the same number has the same seat
   pub same_seat : (s : State (Option O) (View E)) (r : R s) (n i j : ℕ) (u v : View E) → get_elem? s.views i ≡ some u → get_elem? s.views j ≡ some v → 0 < number_count n u → 0 < number_count n v → i ≡ j
@@ -124,11 +125,11 @@ module _ {O E : Type 0} (history : O → List E) (number : O → ℕ) (summed : 
     home = λ z le. let h = k.home (sym u.turn ∙ z) (u.has le) in (h.0, u.slot ∙ h.1, h.2 ∙ sym u.log, h.3 ∙ sym u.fix);
     away = λ nz. let a = k.away (λ z. nz (u.turn ∙ z)) in let j : ℕ = a.1 in let y : View E = a.2 in dite (ℕ_discrete j id)
         (λ q. let same : y ≡ v = some-injective y v (sym a.3 ∙ (ap (get_elem? views) q ∙ at)) in
-            (u.slot ∙ a.0, id, w, set_there views id v w at, c.number ∙ (ap (λ (z : View E). z.number) (sym same) ∙ (a.4 ∙ sym u.turn)), subst (λ (z : Spot E). z.phase ≢ Free) (ap (λ (z : View E). spot z p) same ∙ sym place) a.5))
+        (u.slot ∙ a.0, id, w, set_there views id v w at, c.number ∙ (ap (λ (z : View E). z.number) (sym same) ∙ (a.4 ∙ sym u.turn)), subst (λ (z : Spot E). z.phase ≢ Free) (ap (λ (z : View E). spot z p) same ∙ sym place) a.5))
         (λ q. (u.slot ∙ a.0, j, y, set_else views id j w q ∙ a.3, a.4 ∙ sym u.turn, a.5));
     busy = λ j y e b. ⊎_elim
         (λ (t : (j ≡ id) × (w ≡ y)). let here : spot y p ≡ spot v p = ap (λ (z : View E). spot z p) (sym t.1) ∙ place in let d = k.busy id v at (subst (λ (z : Spot E). z.phase ≢ Free) here b) in
-            let named : v.number ≡ y.number = sym c.number ∙ ap (λ (z : View E). z.number) t.1 in (u.turn ∙ (d.0 ∙ named), subst (λ (z : ℕ). 0 < z) named d.1, ap (λ (z : Spot E). z.known) here ∙ (d.2 ∙ sym u.log)))
+        let named : v.number ≡ y.number = sym c.number ∙ ap (λ (z : View E). z.number) t.1 in (u.turn ∙ (d.0 ∙ named), subst (λ (z : ℕ). 0 < z) named d.1, ap (λ (z : Spot E). z.known) here ∙ (d.2 ∙ sym u.log)))
         (λ (t : (j ≢ id) × (get_elem? views j ≡ some y)). let d = k.busy j y t.1 b in (u.turn ∙ d.0, d.1, d.2 ∙ sym u.log))
         (at_set views id j w y e);
     once = λ q lt le. same_sum (own_count p q) views id v w at (same_owned p q (spot w p) (spot v p) (ap (λ (z : Spot E). z.own) place)) ∙ k.once q lt (subst (λ (l : List E). q ≤ length l) u.log le);

@@ -79,13 +79,13 @@ module _ {E : Type 0} where
             (λ nlt. subst (λ (x : Spot E). Extends x.known (W.logs o)) (sym (past o (λ l. nlt (omega arith)))) (W.logs o, refl));
         front = λ o. let x = a.front o in let y = b.front o in dite (dec_le (o + 1) W.objects)
             (λ lt. let m = le-max_left (spot v o).front (spot w o).front in let n : max (spot v o).front (spot w o).front ≤ length (W.logs o) = max-le x.1 y.1 in
-                subst (λ (z : Spot E). (length z.known ≤ z.front) × (z.front ≤ length (W.logs o))) (sym (here o (omega arith))) (omega arith, n))
+            subst (λ (z : Spot E). (length z.known ≤ z.front) × (z.front ≤ length (W.logs o))) (sym (here o (omega arith))) (omega arith, n))
             (λ nlt. subst (λ (z : Spot E). (length z.known ≤ z.front) × (z.front ≤ length (W.logs o))) (sym (past o (λ l. nlt (omega arith)))) (omega arith, omega arith));
         told = λ o k t e. dite (dec_le (o + 1) W.objects)
             (λ lt. let e' = subst (λ (z : Spot E). get_elem? z.told k ≡ some t) (here o (omega arith)) e in
-                ⊎_elim (λ (q : get_elem? (spot v o).told k ≡ some t). a.told o k t q)
-                (λ (q : (i : ℕ) × (get_elem? (record { seat = w.number; known = (spot w o).known } ∷ (spot w o).told) i ≡ some t)). handed (spot w o) w.number (W.logs o) (b.prefix o) (b.told o) q.0 t q.1)
-                (at_either (spot v o).told (record { seat = w.number; known = (spot w o).known } ∷ (spot w o).told) k t e'))
+            ⊎_elim (λ (q : get_elem? (spot v o).told k ≡ some t). a.told o k t q)
+            (λ (q : (i : ℕ) × (get_elem? (record { seat = w.number; known = (spot w o).known } ∷ (spot w o).told) i ≡ some t)). handed (spot w o) w.number (W.logs o) (b.prefix o) (b.told o) q.0 t q.1)
+            (at_either (spot v o).told (record { seat = w.number; known = (spot w o).known } ∷ (spot w o).told) k t e'))
             (λ nlt. absurd (some-ne-none t (sym (subst (λ (z : Spot E). get_elem? z.told k ≡ some t) (past o (λ l. nlt (omega arith))) e))));
         refused = λ k f e. ⊎_elim (λ (q : get_elem? v.refused k ≡ some f). a.refused k f q) (λ (q : (i : ℕ) × (get_elem? w.refused i ≡ some f)). b.refused q.0 f q.1) (at_either v.refused w.refused k f e);
       }
@@ -121,7 +121,7 @@ module _ {O E : Type 0} (history : O → List E) (number : O → ℕ) (summed : 
     home = ob.home;
     away = λ ne. let a = ob.away ne in let j : ℕ = a.1 in let u : View E = a.2 in dite (ℕ_discrete j id)
         (λ q. let same : u ≡ v = some-injective u v (sym a.3 ∙ (ap (get_elem? s.views) q ∙ at)) in
-            (a.0, id, left, at_longer views (newcomer v ∷ []) id left (set_there s.views id v left at), ap (λ (z : View E). z.number) (sym same) ∙ a.4, subst (λ (z : View E). (spot z o).phase ≢ Free) same a.5))
+        (a.0, id, left, at_longer views (newcomer v ∷ []) id left (set_there s.views id v left at), ap (λ (z : View E). z.number) (sym same) ∙ a.4, subst (λ (z : View E). (spot z o).phase ≢ Free) same a.5))
         (λ q. (a.0, j, u, at_longer views (newcomer v ∷ []) j u (set_else s.views id j left q ∙ a.3), a.4, a.5));
     busy = λ j u e p. ⊎_elim
         (λ (b : get_elem? views j ≡ some u). ⊎_elim
@@ -182,15 +182,20 @@ module _ {O E : Type 0} (history : O → List E) (number : O → ℕ) (summed : 
         home = ob.home;
         away = λ nz. let h = ob.away nz in let j : ℕ = h.1 in let u : View E = h.2 in
             let not_him : j ≢ other = λ q. h.5 (ap (λ (z : View E). (spot z o).phase) (some-injective u w (sym h.3 ∙ (ap (get_elem? s.views) q ∙ was))) ∙ idle) in dite (ℕ_discrete j id)
-            (λ q. let same : u ≡ v = some-injective u v (sym h.3 ∙ (ap (get_elem? s.views) q ∙ at)) in
-                (h.0, id, b, set_else views other id spent (λ z. ne (sym z)) ∙ set_there s.views id v b at, ap (λ (z : View E). z.number) (sym same) ∙ h.4,
-                subst (λ (x : Spot E). x.phase ≢ Free) (sym here) (subst (λ (z : View E). (spot z o).phase ≢ Free) same h.5)))
+            (λ q. let same : u ≡ v = some-injective u v (sym h.3 ∙ (ap (get_elem? s.views) q ∙ at)) in (
+              h.0,
+              id,
+              b,
+              set_else views other id spent (λ z. ne (sym z)) ∙ set_there s.views id v b at,
+              ap (λ (z : View E). z.number) (sym same) ∙ h.4,
+              subst (λ (x : Spot E). x.phase ≢ Free) (sym here) (subst (λ (z : View E). (spot z o).phase ≢ Free) same h.5),
+            ))
             (λ q. (h.0, j, u, set_else views other j spent not_him ∙ (set_else s.views id j b q ∙ h.3), h.4, h.5));
         busy = λ j u e p. ⊎_elim
             (λ (t : (j ≡ other) × (spent ≡ u)). absurd (p (ap (λ (z : View E). (spot z o).phase) (sym t.1))))
             (λ (t : (j ≢ other) × (get_elem? views j ≡ some u)). ⊎_elim
             (λ (q : (j ≡ id) × (b ≡ u)). let d = ob.busy id v at (subst (λ (x : Spot E). x.phase ≢ Free) here (subst (λ (z : View E). (spot z o).phase ≢ Free) (sym q.1) p)) in
-                subst (λ (z : View E). (get_or s.words o 0 ≡ z.number) × (0 < z.number) × ((spot z o).known ≡ r.world.logs o)) q.1 (d.0, d.1, ap (λ (x : Spot E). x.known) here ∙ d.2))
+            subst (λ (z : View E). (get_or s.words o 0 ≡ z.number) × (0 < z.number) × ((spot z o).known ≡ r.world.logs o)) q.1 (d.0, d.1, ap (λ (x : Spot E). x.known) here ∙ d.2))
             (λ (q : (j ≢ id) × (get_elem? s.views j ≡ some u)). ob.busy j u q.1 p)
             (at_set s.views id j b u t.1))
             (at_set views other j spent u e);

@@ -108,15 +108,22 @@ module _ {O E : Type 0} (history : O → List E) (number : O → ℕ) (summed : 
         takes o (Some h.0),
         h.1,
         rule_taken s r o id m.0 (history h.0) lt at positive e h.2,
-        (λ _. (h.0, refl, record {
-            continues = record {
-              known = subst (Extends (spot m.0 o).known) (sym h.2) (mine.prefix o);
-              front = subst (λ (l : List E). (spot m.0 o).front ≤ length l) (sym h.2) front.1;
-              told = λ k t there. subst (Extends t.known) (sym h.2) (mine.told o k t there);
-            };
-            rests = ap between h.2 ∙ ob.rests;
-            kind = h.3 ∙ sym (mine.fixed o lt);
-          }), λ ne. absurd (ne e)),
+        (
+          λ _. (
+            h.0,
+            refl,
+            record {
+              continues = record {
+                known = subst (Extends (spot m.0 o).known) (sym h.2) (mine.prefix o);
+                front = subst (λ (l : List E). (spot m.0 o).front ≤ length l) (sym h.2) front.1;
+                told = λ k t there. subst (Extends t.known) (sym h.2) (mine.told o k t there);
+              };
+              rests = ap between h.2 ∙ ob.rests;
+              kind = h.3 ∙ sym (mine.fixed o lt);
+            },
+          ),
+          λ ne. absurd (ne e),
+        ),
       )
 
   took_miss : (slots : ℕ) (s : State (Option O) (View E)) (r : Rule s) (o id : ℕ) (m : Me (Option O) (View E)) → o < r.world.objects → 0 < m.0.number → 0 < m.0.seats → (spot m.0 o).phase ≡ Free → get_elem? s.views id ≡ some m.0 → get_or s.words o 0 ≢ 0
@@ -127,7 +134,7 @@ module _ {O E : Type 0} (history : O → List E) (number : O → ℕ) (summed : 
       let mine = r.knows id m.0 at positive in let seats : m.0.seats ≡ r.world.seats = mine.seats in let most : r.world.seats ≤ 17 = r.most in
       let within : r.next ≤ r.world.seats + 1 = r.within (omega arith) in let low : 0 < turn = omega arith in let high : turn ≤ r.world.seats = (let c : v.number < r.next = his.1 in omega arith) in
       let apart : turn ≢ m.0.number = λ q. let same : j ≡ id = one_seat history number summed between s r j id v m.0 there at real (named ∙ q) in
-          away.5 (ap (λ (z : View E). (spot z o).phase) (some-injective v m.0 (sym there ∙ (ap (get_elem? s.views) same ∙ at))) ∙ idle) in
+      away.5 (ap (λ (z : View E). (spot z o).phase) (some-injective v m.0 (sym there ∙ (ap (get_elem? s.views) same ∙ at))) ∙ idle) in
       let w : View E = refused o turn m.0 in (
         w,
         keeps,

@@ -132,6 +132,6 @@ module _ {E : Type 0} where
       let first_step = ap (λ (z : Spot E). record { phase = Free; known = z.known; front = z.front; own = z.own; told = z.told }) (at_spot v n (taken_spot n [] v) inside) in
       let nothing : y ≡ blank = first_step ∙ ap (λ (z : Spot E). record { phase = Free; known = []; front = 0; own = z.own; told = z.told }) (blank_spot many n) in
       let spots : set (set v.spots n (taken_spot n [] v)) n y ≡ replicate (length (replicate n 0 ++ x ∷ done)) blank =
-          set_twice v.spots n (taken_spot n [] v) y ∙ (ap (set v.spots n) (nothing ∙ sym (blank_spot many n)) ∙ (set-get_or v.spots n blank ∙ ap (λ (k : ℕ). replicate k blank) same)) in
+      set_twice v.spots n (taken_spot n [] v) y ∙ (ap (set v.spots n) (nothing ∙ sym (blank_spot many n)) ∙ (set-get_or v.spots n blank ∙ ap (λ (k : ℕ). replicate k blank) same)) in
       let numbers = placed n x done in
       λ i. record { number = 1; numbers = 1 ∷ []; seats = seats; next = 2; awaited = n; fixed = numbers i; handed = []; spots = spots i; refused = [] }

@@ -40,6 +40,8 @@ module _ {E : Type 0} where
 
   -- one refusal more
   pub noted_more : (v w u : View E) (o n : ℕ) → Noted v o w → u ≡ refused o n w → IsOther w n → Noted v o u
-  noted_more v w u o n k e other = let note : Refusal = record { seat = v.number; object = o; found = n } in let is = subst (λ (z : View E). IsOther z n) k.2 other in
-      (k.0 ++ note ∷ [], All-push (λ (r : Refusal). (r.seat ≡ v.number) × (r.object ≡ o) × IsOther v r.found) k.0 note k.1 (refl, refl, record { real = is.real; within = is.within; few = is.few; apart = is.apart }),
-      e ∙ (ap (refused o n) k.2 ∙ ap (λ (l : List Refusal). record v { refused = l }) (append_assoc v.refused k.0 (note ∷ []))))
+  noted_more v w u o n k e other = let note : Refusal = record { seat = v.number; object = o; found = n } in let is = subst (λ (z : View E). IsOther z n) k.2 other in (
+    k.0 ++ note ∷ [],
+    All-push (λ (r : Refusal). (r.seat ≡ v.number) × (r.object ≡ o) × IsOther v r.found) k.0 note k.1 (refl, refl, record { real = is.real; within = is.within; few = is.few; apart = is.apart }),
+    e ∙ (ap (refused o n) k.2 ∙ ap (λ (l : List Refusal). record v { refused = l }) (append_assoc v.refused k.0 (note ∷ []))),
+  )

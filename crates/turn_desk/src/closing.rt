@@ -19,13 +19,17 @@ fn join_all<O: Logged>(
     rows: &mut Vec<Vec<u32>>,
     mut passes: Vec<Pass<O>>,
 ) -> TurnSeat<O>
-    requires own { All (λ p. p.desk ≡ record { table = table.now.shared.table_id; seats = vec_len rows.old }) passes.items }
+    requires own { All
+        (λ p. p.desk ≡ record { table = table.now.shared.table_id; seats = vec_len rows.old })
+        passes.items }
     requires free { All (λ p. HoldsNothing p.view) passes.items }
     requires some { 0 < vec_len passes }
     requires words { 0 < table.now.shared.table_id.words }
     ensures own { result.table_id ≡ table.now.shared.table_id }
     ensures rows { vec_len rows.new ≡ vec_len rows.old }
-    ensures gathered { Gathers (vec_len rows.old) table.now.shared.table_id.slots (views_of passes.items) [] (map (λ r. r.items) rows.old.items) (map (λ r. r.items) rows.new.items) result.me }
+    ensures gathered { Gathers (vec_len rows.old) table.now.shared.table_id.slots
+        (views_of passes.items) []
+        (map (λ r. r.items) rows.old.items) (map (λ r. r.items) rows.new.items) result.me }
 {
     let Some(last) = passes.pop() else {
         unreachable!()
@@ -71,14 +75,22 @@ impl<O: Logged> Desk<O> {
         requires free { All (λ p. HoldsNothing p.view) passes.items }
         requires all { (n : ℕ) → 0 < n → n ≤ self.seats → Contains (numbers_of passes.items) n }
         ensures count { vec_len result.0 ≡ self.table.slots }
-        ensures replay { AtEach result.0.items (λ o x. All (λ p. x ≡ O.replay (fixed_at p.view o) (O.history x)) passes.items) }
-        ensures fixed { AtEach result.0.items (λ o x. All (λ p. O.fixed_number x ≡ fixed_at p.view o) passes.items) }
-        ensures seen { AtEach result.0.items (λ o x. All (λ p. Extends (spot p.view o).known (O.history x)) passes.items) }
-        ensures once { AtEach result.0.items (λ o x. (place : ℕ) → 0 < place → place ≤ length (O.history x) → own_total o place passes.items ≡ 1) }
-        ensures no_other { AtEach result.0.items (λ o x. (place : ℕ) → (place ≡ 0) ⊎ (length (O.history x) < place) → own_total o place passes.items ≡ 0) }
-        ensures rows { (length result.1 ≡ self.seats) × All (λ row. length row ≡ self.table.slots) result.1 }
-        ensures fronts { All (λ p. (o : ℕ) → front_of result.1 p.view.number o ≡ (spot p.view o).front) passes.items }
-        ensures within { AtEach result.0.items (λ o x. All (λ p. front_of result.1 p.view.number o ≤ length (O.history x)) passes.items) }
+        ensures replay { AtEach result.0.items
+            (λ o x. All (λ p. x ≡ O.replay (fixed_at p.view o) (O.history x)) passes.items) }
+        ensures fixed { AtEach result.0.items
+            (λ o x. All (λ p. O.fixed_number x ≡ fixed_at p.view o) passes.items) }
+        ensures seen { AtEach result.0.items
+            (λ o x. All (λ p. Extends (spot p.view o).known (O.history x)) passes.items) }
+        ensures once { AtEach result.0.items (λ o x. (place : ℕ) → 0 < place
+            → place ≤ length (O.history x) → own_total o place passes.items ≡ 1) }
+        ensures no_other { AtEach result.0.items (λ o x. (place : ℕ)
+            → (place ≡ 0) ⊎ (length (O.history x) < place) → own_total o place passes.items ≡ 0) }
+        ensures rows { (length result.1 ≡ self.seats)
+            × All (λ row. length row ≡ self.table.slots) result.1 }
+        ensures fronts { All (λ p. (o : ℕ)
+            → front_of result.1 p.view.number o ≡ (spot p.view o).front) passes.items }
+        ensures within { AtEach result.0.items
+            (λ o x. All (λ p. front_of result.1 p.view.number o ≤ length (O.history x)) passes.items) }
     {
         let Desk {
             table,

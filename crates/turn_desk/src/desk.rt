@@ -47,10 +47,12 @@ impl<O: Logged> Desk<O> {
         requires free { (spot pass.old.view object).phase ≡ Free }
         ensures own { pass.new.desk ≡ pass.old.desk }
         ensures object { IfOk result (λ h. h.object ≡ object) }
-        ensures taken { IfOk result (λ h. pass.new.view ≡ taken object (O.history h.value) pass.old.view) }
+        ensures taken { IfOk result
+            (λ h. pass.new.view ≡ taken object (O.history h.value) pass.old.view) }
         ensures kept { IfOk result (λ h. HasTaken pass.new.view object (O.history h.value)) }
         ensures seen { IfOk result (λ h. Continues pass.old.view object (O.history h.value)) }
-        ensures replay { IfOk result (λ h. h.value ≡ O.replay (fixed_at pass.old.view object) (O.history h.value)) }
+        ensures replay { IfOk result
+            (λ h. h.value ≡ O.replay (fixed_at pass.old.view object) (O.history h.value)) }
         ensures fixed { IfOk result (λ h. O.fixed_number h.value ≡ fixed_at pass.old.view object) }
         ensures between { IfOk result (λ h. O.between (O.history h.value) ≡ true) }
         ensures busy { IfErr result (λ b. pass.new.view ≡ refused object b.seat pass.old.view) }
@@ -79,7 +81,8 @@ impl<O: Logged> Desk<O> {
         ensures taken { TakesAfterRefusals pass.old.view object (O.history result.value) pass.new.view }
         ensures kept { HasTaken pass.new.view object (O.history result.value) }
         ensures seen { Continues pass.old.view object (O.history result.value) }
-        ensures replay { result.value ≡ O.replay (fixed_at pass.old.view object) (O.history result.value) }
+        ensures replay { result.value
+            ≡ O.replay (fixed_at pass.old.view object) (O.history result.value) }
         ensures fixed { O.fixed_number result.value ≡ fixed_at pass.old.view object }
         ensures between { O.between (O.history result.value) ≡ true }
     {
@@ -93,12 +96,7 @@ impl<O: Logged> Desk<O> {
     }
 
     /// Writes the new tally. From this step on the object's history is published.
-    fn publish<W: Said<O::Entry>>(
-        &self,
-        seat: &mut TurnSeat<O>,
-        slot: usize,
-        value: &O,
-    )
+    fn publish<W: Said<O::Entry>>(&self, seat: &mut TurnSeat<O>, slot: usize, value: &O)
         requires own { seat.old.table_id ≡ self.now.table }
         requires slot { slot < self.now.table.slots }
         requires said { (W.object ≡ slot) × (W.log ≡ O.history value.now) }
@@ -107,7 +105,10 @@ impl<O: Logged> Desk<O> {
         requires grown { Extends (spot seat.old.me.0 slot).known (O.history value.now) }
         requires between { O.between (O.history value.now) ≡ true }
         ensures own { (seat.new.table_id ≡ seat.old.table_id) × (seat.new.id ≡ seat.old.id) }
-        ensures published { seat.new.me ≡ (published slot (O.history value.now) seat.old.me.0, seat.old.me.1) }
+        ensures published { seat.new.me ≡ (
+          published slot (O.history value.now) seat.old.me.0,
+          seat.old.me.1,
+        ) }
     {
         let tally = value.length() as u64 * (1 << 42) + value.summary();
         let word = self.table.slot_count() + slot;

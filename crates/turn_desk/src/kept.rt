@@ -21,7 +21,8 @@ pub(crate) fn place_of(kept: &[u32], object: u32) -> usize
 /// Turns the row so that what was the n-th slot, counted from 0, is the first.
 pub(crate) fn turn_by<S, V>(seat: &mut Seat<S, V>, n: usize)
     requires { n ≤ length seat.old.me.1 }
-    ensures same { (seat.new.table_id ≡ seat.old.table_id) × (seat.new.id ≡ seat.old.id) × (seat.new.me.0 ≡ seat.old.me.0) }
+    ensures same { (seat.new.table_id ≡ seat.old.table_id) × (seat.new.id ≡ seat.old.id)
+        × (seat.new.me.0 ≡ seat.old.me.0) }
     ensures turned { seat.new.me.1 ≡ drop n seat.old.me.1 ++ take n seat.old.me.1 }
 {
     for _ in 0..n {

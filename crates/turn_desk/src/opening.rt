@@ -16,7 +16,8 @@ use std::marker::Brand;
 
 /// The words of a desk of free objects with empty histories: a turn word for each, then a tally word.
 fn free_words(alloc: Global, objects: usize, summary: u64) -> Result<Vec<u64>, Memory>
-    ensures { IfOk result (λ words. words.items ≡ replicate objects 0 ++ replicate objects summary) }
+    ensures { IfOk result
+        (λ words. words.items ≡ replicate objects 0 ++ replicate objects summary) }
 {
     let mut words = Vec::from_elem(alloc, 0, objects)?;
     for _ in 0..objects {
@@ -46,7 +47,8 @@ fn bring_seats<O: Logged, W: Said<O::Entry>>(
     requires word { 0 < table.now.shared.table_id.words }
     requires said { W.number ≡ _seats }
     requires few { (0 < _seats) × (_seats ≤ 17) }
-    requires first { (0 < seat.old.me.0.number) × (seat.old.me.0.next ≡ 2) × (seat.old.me.0.seats ≡ 0) }
+    requires first { (0 < seat.old.me.0.number) × (seat.old.me.0.next ≡ 2)
+        × (seat.old.me.0.seats ≡ 0) }
     ensures own { seat.new.table_id ≡ seat.old.table_id }
     ensures brought { seat.new.me ≡ (seated _seats seat.old.me.0, seat.old.me.1) }
 {
@@ -61,17 +63,22 @@ fn put_in<O: Logged, W: Said<O::Entry>>(
     value: O,
 )
     requires own { seat.old.table_id ≡ table.now.shared.table_id }
-    requires object { (object < table.now.shared.table_id.slots) × (table.now.shared.table_id.words ≡ 2 * table.now.shared.table_id.slots) }
+    requires object { (object < table.now.shared.table_id.slots)
+        × (table.now.shared.table_id.words ≡ 2 * table.now.shared.table_id.slots) }
     requires said { (W.object ≡ object) × (W.number ≡ O.fixed_number value) }
     requires fresh { O.history value ≡ [] }
-    requires first { (seat.old.me.0.number ≡ 1) × (seat.old.me.0.next ≡ 2) × (seat.old.me.0.awaited ≡ object + 1) × (seat.old.me.0.handed ≡ []) }
-    requires wide { (length seat.old.me.0.spots ≡ table.now.shared.table_id.slots) × (length seat.old.me.0.fixed ≡ table.now.shared.table_id.slots) }
+    requires first { (seat.old.me.0.number ≡ 1) × (seat.old.me.0.next ≡ 2)
+        × (seat.old.me.0.awaited ≡ object + 1) × (seat.old.me.0.handed ≡ []) }
+    requires wide { (length seat.old.me.0.spots ≡ table.now.shared.table_id.slots)
+        × (length seat.old.me.0.fixed ≡ table.now.shared.table_id.slots) }
     requires free { (spot seat.old.me.0 object).phase ≡ Free }
     ensures own { seat.new.table_id ≡ seat.old.table_id }
     ensures put { seat.new.me
         ≡ (freed object (brought object (O.fixed_number value) (taken object [] seat.old.me.0)), seat.old.me.1) }
 {
-    table.shared.compare_exchange::<TakeVacant>(seat, object, 0, 1);
+    table
+        .shared
+        .compare_exchange::<TakeVacant>(seat, object, 0, 1);
     table.shared.load::<BringNumber<W>>(seat, 0);
     drop(table.shared.exchange(seat, object, Some(value)));
     table.shared.swap::<Give>(seat, object, 0);
@@ -80,11 +87,20 @@ fn put_in<O: Logged, W: Said<O::Entry>>(
 /// Puts all objects in, the last first.
 fn put_all<O: Logged>(table: &DeskTable<O>, seat: &mut TurnSeat<O>, mut objects: Vec<O>)
     requires own { seat.old.table_id ≡ table.now.shared.table_id }
-    requires count { (vec_len objects ≡ table.now.shared.table_id.slots) × (table.now.shared.table_id.words ≡ 2 * table.now.shared.table_id.slots) }
+    requires count { (vec_len objects ≡ table.now.shared.table_id.slots)
+        × (table.now.shared.table_id.words ≡ 2 * table.now.shared.table_id.slots) }
     requires fresh { All (λ x. O.history x ≡ []) objects.items }
-    requires first { seat.old.me ≡ (opening 1 2 seat.old.me.0.seats (vec_len objects) (replicate (vec_len objects) 0), []) }
+    requires first { seat.old.me ≡ (
+      opening 1 2
+          seat.old.me.0.seats (vec_len objects) (replicate (vec_len objects) 0),
+      [],
+    ) }
     ensures own { seat.new.table_id ≡ seat.old.table_id }
-    ensures full { seat.new.me ≡ (opening 1 2 seat.old.me.0.seats 0 (map O.fixed_number objects.items), []) }
+    ensures full { seat.new.me ≡ (
+      opening 1 2 seat.old.me.0.seats 0
+          (map O.fixed_number objects.items),
+      [],
+    ) }
 {
     while let Some(value) = objects.pop() {
         put_in::<O, Brand>(table, seat, objects.len(), value);
@@ -100,7 +116,15 @@ fn make_pass<O: Logged>(
 ) -> Result<Pass<O>, Memory>
     requires made { IsNew number seat.table_id seat.me }
     requires objects { objects ≡ seat.table_id.slots }
-    ensures { IfOk result (λ p. p ≡ record { desk = record { table = seat.table_id; seats = seat.me.0.seats }; view = seat.me.0 }) }
+    ensures { IfOk result
+        (λ p. p ≡ record {
+          desk = record {
+            table = seat.table_id;
+            seats =
+                seat.me.0.seats;
+          };
+          view = seat.me.0;
+        }) }
 {
     let fronts = Vec::from_elem(alloc, 0, objects)?;
     let kept = Vec::with_capacity(alloc, objects)?;
@@ -119,11 +143,17 @@ fn deal<O: Logged>(
     mut seat: TurnSeat<O>,
     seats: u32,
 ) -> Result<Vec<Pass<O>>, Memory>
-    requires own { (seat.table_id ≡ table.now.shared.table_id) × (0 < table.now.shared.table_id.words) }
+    requires own { (seat.table_id ≡ table.now.shared.table_id)
+        × (0 < table.now.shared.table_id.words) }
     requires few { (0 < seats) × (seats ≤ 17) }
     requires first { seat.me ≡ (opening 1 2 seats 0 seat.me.0.fixed, []) }
     requires wide { length seat.me.0.fixed ≡ table.now.shared.table_id.slots }
-    ensures { IfOk result (λ passes. passes.items ≡ opening_passes (record { table = seat.table_id; seats = seats }) seat.me.0.fixed) }
+    ensures { IfOk result
+        (λ passes. passes.items ≡ opening_passes (record {
+          table =
+              seat.table_id;
+          seats = seats;
+        }) seat.me.0.fixed) }
 {
     let objects = table.slot_count();
     let mut passes = Vec::with_capacity(alloc, seats as usize)?;

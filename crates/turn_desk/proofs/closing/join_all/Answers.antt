@@ -27,9 +27,13 @@ join_seat-requires g c = let l = g.O.Logged in let k = c.pass.invariant in let p
     let own = all_last (λ p. p.desk ≡ record { table = c.args.table.now.shared.table_id; seats = vec_len c.args.rows.now }) rest pass (subst (All (λ p. p.desk ≡ record { table = c.args.table.now.shared.table_id; seats = vec_len c.args.rows.now })) popped so_far.desk) in
     let free = all_last (λ p. HoldsNothing p.view) rest pass (subst (All (λ p. HoldsNothing p.view)) popped so_far.free) in
     let idle = subst HoldsNothing (ap (λ p. p.view) (sym c.pass.view_is)) free in
-    let table = ap (λ p. p.desk.table) c.pass.view_is ∙ ap (λ d. d.table) own in
-    (so_far.own, table, keeps_nothing inside.number inside.fronts.items inside.kept.items _ inside.seat.table_id me k idle, c.requires.words,
-    can_join l.history l.fixed_number l.summed l.between seat.id inside.seat.id seat.me.0 me.0 (gathers_real _ _ _ _ _ _ seat.me so_far.gathered) (subst (λ n. 0 < n) k.named k.real) idle)
+    let table = ap (λ p. p.desk.table) c.pass.view_is ∙ ap (λ d. d.table) own in (
+      so_far.own,
+      table,
+      keeps_nothing inside.number inside.fronts.items inside.kept.items _ inside.seat.table_id me k idle,
+      c.requires.words,
+      can_join l.history l.fixed_number l.summed l.between seat.id inside.seat.id seat.me.0 me.0 (gathers_real _ _ _ _ _ _ seat.me so_far.gathered) (subst (λ n. 0 < n) k.named k.real) idle,
+    )
 
 pub index_mut-requires-in-Some-pop : goal.index_mut-requires-in-Some-pop
 index_mut-requires-in-Some-pop g c = let k = c.pass.invariant in let popped = c.in-Some-pop.ensures.items in let inside = c.pass.inside in let rest = c.pop-in-loop-pass.new.self.items in let pass = c.in-Some-pop.pass in let so_far = c.loop-pass.invariant in

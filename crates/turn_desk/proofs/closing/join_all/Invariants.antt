@@ -8,7 +8,7 @@ invariant-loop-pass g l = record {
   desk : All (λ p. p.desk ≡ record { table = l.table.shared.table_id; seats = vec_len l.fn.rows }) l.passes.items;
   free : All (λ p. HoldsNothing p.view) l.passes.items;
   rows : vec_len l.rows ≡ vec_len l.fn.rows;
-  gathered : Gathers (vec_len l.fn.rows) l.table.shared.table_id.slots (views_of l.fn.passes.items) (views_of l.passes.items) (map (λ r. r.items) l.fn.rows.items) (map (λ r. r.items) l.rows.items) l.seat.me
+  gathered : Gathers (vec_len l.fn.rows) l.table.shared.table_id.slots (views_of l.fn.passes.items) (views_of l.passes.items) (map (λ r. r.items) l.fn.rows.items) (map (λ r. r.items) l.rows.items) l.seat.me;
 }
 
 abbrev pub decreases-loop-pass : goal.decreases-loop-pass

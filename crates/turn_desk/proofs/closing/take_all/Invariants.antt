@@ -11,5 +11,5 @@ invariant-loop-object g l = record {
   len : slots_len l.closed.slots ≡ slots_len l.fn.closed.slots;
   taken : map Some l.objects.items ≡ take l.object (slots_items l.fn.closed.slots);
   count : vec_len l.objects ≡ l.object;
-  room : vec_capacity l.objects ≡ vec_capacity l.fn.objects
+  room : vec_capacity l.objects ≡ vec_capacity l.fn.objects;
 }

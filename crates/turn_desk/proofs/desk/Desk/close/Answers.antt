@@ -84,4 +84,3 @@ returns-clause-within g c = let l = g.O.Logged in let inside = c.self.inside in 
     let all = λ (n : ℕ) (low : 0 < n) (high : n ≤ vec_len inside.rows). c.requires.all n low (omega arith) in
     let long = length-map before (λ r. r.items) ∙ sym many in
     within l.history l.fixed_number l.summed l.between (vec_len inside.rows) inside.table.shared.table_id.slots seat.id c.args.passes.items (map (λ r. r.items) before) (map (λ r. r.items) rows) seat.me _ _ c.take_all-objects.result.items c.close_with.ensures.values.2 c.join_all-seat.ensures.gathered some_seat all long deep c.take_all-objects.ensures
-

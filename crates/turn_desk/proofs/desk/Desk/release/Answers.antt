@@ -19,9 +19,12 @@ swap-requires g c = let l = g.O.Logged in let k = c.pass.invariant in let o = c.
     let inside : o < length old.spots = search rules in
     let here = ap (λ v. spot v o) now ∙ at_spot old o (published_spot o log old) inside in
     let ready : me.0.awaited ≡ 0 = ap (λ v. v.awaited) now ∙ k.ready in
-    let kind : l.fixed_number value ≡ get_or old.fixed o 0 = search rules in
-    (search rules, search rules, can_give l.history l.fixed_number l.summed l.between _ o c.exchange.new.seat.id value _ me (search rules)
-    (subst (λ x. x.phase ≢ Free) (sym here) published_is_busy) (omega arith) (ap (λ m. m.1) put_in) (sym (ap (λ x. x.known) here)) (kind ∙ ap (λ v. get_or v.fixed o 0) (sym now)))
+    let kind : l.fixed_number value ≡ get_or old.fixed o 0 = search rules in (
+      search rules,
+      search rules,
+      can_give l.history l.fixed_number l.summed l.between _ o c.exchange.new.seat.id value _ me (search rules)
+          (subst (λ x. x.phase ≢ Free) (sym here) published_is_busy) (omega arith) (ap (λ m. m.1) put_in) (sym (ap (λ x. x.known) here)) (kind ∙ ap (λ v. get_or v.fixed o 0) (sym now)),
+    )
 
 pub turn_by-requires-2 : goal.turn_by-requires-2
 turn_by-requires-2 g c = let k = c.pass.invariant in let o = c.args.held.object in let out = c.publish.ensures.published in let row = ap (λ m. m.1) out ∙ k.slots in let kept = c.pass.inside.kept.items in let before = c.publish.new.seat.me.1 in let place = c.place_of-place.result in
