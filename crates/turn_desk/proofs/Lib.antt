@@ -1,0 +1,15 @@
+pub mod Lists
+pub mod Views
+pub mod Rule
+pub mod Takes
+pub mod Gives
+pub mod SetUp
+pub mod Seats
+pub mod Rows
+pub mod Keeping
+pub mod Vacant
+pub mod Dealing
+pub mod AllBack
+pub mod Joining
+pub mod Settled
+pub mod Ready

@@ -1,0 +1,47 @@
+-- What is known of one object after a change of what is known.
+use Rattle.std.proofs.Common.{◌≡◌, ◌≢◌, ℕ, ◌+◌, ◌<◌, ◌≤◌, zero, suc, List, [], ◌∷◌, ◌++◌, length, get_or, set, sym, refl, ap, ◌∙◌, arith, get_or-set_other, get_or-set_same, replicate, subst, append_assoc}
+use Rattle.std.proofs.lemmas.List.Elements.{All-push}
+use Rattle.turn_desk.specs.declared.view.Refusal.{Refusal}
+use Rattle.turn_desk.specs.declared.view.Phase.TheVariants.{Free, Taken, Published}
+use Rattle.turn_desk.specs.declared.view.Spot.{Spot}
+use Rattle.turn_desk.specs.declared.view.View.{View}
+use Rattle.turn_desk.specs.View.{blank, spot, with_spot, refused, joined, all_joined}
+use Rattle.turn_desk.specs.Steps.{IsOther, Noted}
+
+pub taken_is_busy : Taken ≢ Free
+taken_is_busy e = cc
+
+pub published_is_busy : Published ≢ Free
+published_is_busy e = cc
+
+module _ {E : Type 0} where
+  pub at_spot : (v : View E) (o : ℕ) (x : Spot E) → o < length v.spots → spot (with_spot v o x) o ≡ x
+  at_spot v o x lt = get_or-set_same v.spots o x blank lt
+
+  pub off_spot : (v : View E) (o p : ℕ) (x : Spot E) → p ≢ o → spot (with_spot v o x) p ≡ spot v p
+  off_spot v o p x ne = get_or-set_other v.spots o p x blank ne
+
+  -- an object of a desk that was just made is known by nothing
+  pub blank_spot : (n o : ℕ) → get_or (replicate n (blank {E = E})) o blank ≡ blank
+  blank_spot zero o = refl
+  blank_spot (suc n) zero = refl
+  blank_spot (suc n) (suc o) = blank_spot n o
+
+  pub joined_spot : (seat : ℕ) (xs ys : List (Spot E)) (o : ℕ) → o < length xs → o < length ys → get_or (all_joined seat xs ys) o blank ≡ joined seat (get_or xs o blank) (get_or ys o blank)
+  joined_spot seat [] ys o lt gt = absurd (omega arith)
+  joined_spot seat (x ∷ xs) [] o lt gt = absurd (omega arith)
+  joined_spot seat (x ∷ xs) (y ∷ ys) zero lt gt = refl
+  joined_spot seat (x ∷ xs) (y ∷ ys) (suc o) lt gt = joined_spot seat xs ys o (omega arith) (omega arith)
+
+  pub length_joined : (seat : ℕ) (xs ys : List (Spot E)) → length (all_joined seat xs ys) ≡ length xs
+  length_joined seat [] ys = refl
+  length_joined seat (x ∷ xs) [] = refl
+  length_joined seat (x ∷ xs) (y ∷ ys) = ap suc (length_joined seat xs ys)
+
+  -- one refusal more
+  pub noted_more : (v w u : View E) (o n : ℕ) → Noted v o w → u ≡ refused o n w → IsOther w n → Noted v o u
+  noted_more v w u o n k e other = let note : Refusal = record { seat = v.number; object = o; found = n } in let is = subst (λ (z : View E). IsOther z n) k.2 other in (
+    k.0 ++ note ∷ [],
+    All-push (λ (r : Refusal). (r.seat ≡ v.number) × (r.object ≡ o) × IsOther v r.found) k.0 note k.1 (refl, refl, record { real = is.real; within = is.within; few = is.few; apart = is.apart }),
+    e ∙ (ap (refused o n) k.2 ∙ ap (λ (l : List Refusal). record v { refused = l }) (append_assoc v.refused k.0 (note ∷ []))),
+  )

@@ -1,0 +1,77 @@
+-- What stands once all passes of a desk are given back.
+use Rattle.std.specs.Prelude.{◌≡◌, ℕ, ◌+◌, ◌-◌, ◌<◌, ◌≤◌, List, [], ◌∷◌, ◌++◌, map, length, slice_index, slice_index_or, slice_get, slice_set, sum_by, Option, Some}
+use lib.ListN.{get_elem?}
+use mathlib.Core.Option.{some}
+use Rattle.atomic_table.specs.Table.{Me}
+use Rattle.turn_desk.specs.declared.view.Phase.TheVariants.{Free}
+use Rattle.turn_desk.specs.declared.view.Spot.{Spot}
+use Rattle.turn_desk.specs.declared.view.View.{View}
+use Rattle.turn_desk.specs.Passes.{DeskId, Standing}
+use Rattle.turn_desk.specs.View.{spot, own_count, both}
+
+-- the front with which the pass of this number was given back, at the object o
+abbrev pub front_of : List (List ℕ) → ℕ → ℕ → ℕ
+front_of rows seat o = slice_index (slice_index_or rows (seat - 1) []) o
+
+module _ {E : Type 0} where
+  abbrev pub numbers_of : List (Standing E) → List ℕ
+  numbers_of passes = map (λ (p : Standing E). p.view.number) passes
+
+  abbrev pub views_of : List (Standing E) → List (View E)
+  views_of passes = map (λ (p : Standing E). p.view) passes
+
+  -- the pass has no object
+  abbrev pub HoldsNothing : View E → Type 0
+  HoldsNothing v = (o : ℕ) → (spot v o).phase ≡ Free
+
+  -- how often all passes together say that they filled the place p of the object o
+  abbrev pub own_total : ℕ → ℕ → List (Standing E) → ℕ
+  own_total o p passes = sum_by (λ (s : Standing E). own_count o p s.view) passes
+
+  abbrev pub fronts_of : View E → List ℕ
+  fronts_of v = map (λ (x : Spot E). x.front) v.spots
+
+  -- the first view, once all the others were joined in
+  abbrev pub gathered : View E → List (View E) → View E
+  gathered base [] = base
+  gathered base (v ∷ vs) = both (gathered base vs) v
+
+  -- the rows of fronts, with that of each pass put in its place
+  abbrev pub placed : List (List ℕ) → List (View E) → List (List ℕ)
+  placed rows [] = rows
+  placed rows (v ∷ vs) = slice_set (placed rows vs) (v.number - 1) (fronts_of v)
+
+  -- a pass that is given back to a desk of so many passes and objects, and has no object
+  pub record IsBack (seats slots : ℕ) (v : View E) : Type 0 where
+    pub real : 0 < v.number
+    pub within : v.number ≤ seats
+    pub agreed : v.seats ≡ seats
+    pub alone : v.numbers ≡ v.number ∷ []
+    pub ready : v.awaited ≡ 0
+    pub wide : length v.spots ≡ slots
+    pub idle : HoldsNothing v
+
+-- what holds of each object of a list, by its place
+abbrev pub AtEach : {O : Type 0} → List O → (ℕ → O → Type 0) → Type 0
+AtEach {O} xs P = (o : ℕ) (x : O) → slice_get xs o ≡ Some x → P o x
+
+-- there is an object in each slot
+abbrev pub AllFilled : {O : Type 0} → List (Option O) → Type 0
+AllFilled {O} slots = (o : ℕ) → o < length slots → (x : O) × (get_elem? slots o ≡ some (Some x))
+
+-- the passes that are left, while the others were joined into one
+pub record Gathers {O E : Type 0} (seats slots : ℕ) (all left : List (View E)) (before rows : List (List ℕ)) (me : Me (Option O) (View E)) : Type 0 where
+  pub base : View E
+  pub others : List (View E)
+  pub parts : left ++ (others ++ base ∷ []) ≡ all
+  pub joined : me ≡ (gathered base others, [])
+  pub back : (k : ℕ) (v : View E) → get_elem? (others ++ base ∷ []) k ≡ some v → IsBack seats slots v
+  pub shown : rows ≡ placed before (others ++ base ∷ [])
+
+-- a pass of this desk that has no object
+abbrev pub IsReady : {E : Type 0} → DeskId → Standing E → Type 0
+IsReady desk p = (p.desk ≡ desk) × HoldsNothing p.view
+
+-- the passes are numbered from 1, in order
+abbrev pub AreNumbered : {E : Type 0} → List (Standing E) → Type 0
+AreNumbered {E} passes = (k : ℕ) (d : Standing E) → k < length passes → (slice_index_or passes k d).view.number ≡ k + 1

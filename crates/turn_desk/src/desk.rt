@@ -1,0 +1,144 @@
+ghost use Rattle.std.specs.Prelude.{◌≡◌, ◌≢◌, ◌<◌, ◌≤◌, ◌^◌, true, IfOk, IfErr, length};
+ghost use Rattle.turn_desk.specs.declared.view.Phase.TheVariants.{Free, Taken};
+ghost use Rattle.turn_desk.specs.View.{Extends, spot, taken, refused, published, freed};
+ghost use Rattle.turn_desk.specs.Steps.{Continues, HasTaken, IsOther, TakesAfterRefusals};
+ghost use Rattle.turn_desk.specs.Passes.{fixed_at};
+
+use crate::held::{Busy, Held};
+use crate::kept::{place_of, turn_by};
+use crate::logged::Logged;
+use crate::pass::Pass;
+use crate::plays::{DeskTable, Give, Publish, Said, Take, TurnSeat};
+use std::marker::{Brand, Model};
+use std::sync::Wait;
+
+/// Objects that threads take in turn.
+#[derive(Drop)]
+pub struct Desk<O: Logged> {
+    pub(crate) table: DeskTable<O>,
+    /// Room for the objects that `close` gives.
+    pub(crate) room: Vec<O>,
+    /// Room for the fronts that `close` gives: a row for each pass.
+    pub(crate) rows: Vec<Vec<u32>>,
+}
+
+impl<O: Logged> Model for Desk<O> {
+    ghost use Rattle.std.specs.Prelude.{◌≡◌, ◌<◌, ◌≤◌, ◌*◌, [], length, vec_capacity};
+    ghost use Rattle.turn_desk.specs.Passes.{DeskId};
+
+    ghost Value = { DeskId };
+
+    ghost view = { λ d. record { table = d.table.shared.table_id; seats = length d.rows.items } };
+
+    ghost invariant = { λ d. (d.table.shared.table_id.words ≡ 2 * d.table.shared.table_id.slots) × (d.room.items ≡ []) × (d.table.shared.table_id.slots ≤ vec_capacity d.room) × (0 < length d.rows.items) × (0 < d.table.shared.table_id.slots) };
+}
+
+impl<O: Logged> Desk<O> {
+    /// Takes an object, if no other pass has it, in one atomic step. Its history is neither copied nor
+    /// walked.
+    ///
+    /// # Errors
+    ///
+    /// The number of the pass that has it.
+    #[tactic(auto, using(crate::proofs::Keeping::keeps_here))]
+    pub fn try_hold(&self, pass: &mut Pass<O>, object: u32) -> Result<Held<O>, Busy>
+        requires own { pass.old.desk ≡ self.now }
+        requires object { object < self.now.table.slots }
+        requires free { (spot pass.old.view object).phase ≡ Free }
+        ensures own { pass.new.desk ≡ pass.old.desk }
+        ensures object { IfOk result (λ h. h.object ≡ object) }
+        ensures taken { IfOk result
+            (λ h. pass.new.view ≡ taken object (O.history h.value) pass.old.view) }
+        ensures kept { IfOk result (λ h. HasTaken pass.new.view object (O.history h.value)) }
+        ensures seen { IfOk result (λ h. Continues pass.old.view object (O.history h.value)) }
+        ensures replay { IfOk result
+            (λ h. h.value ≡ O.replay (fixed_at pass.old.view object) (O.history h.value)) }
+        ensures fixed { IfOk result (λ h. O.fixed_number h.value ≡ fixed_at pass.old.view object) }
+        ensures between { IfOk result (λ h. O.between (O.history h.value) ≡ true) }
+        ensures busy { IfErr result (λ b. pass.new.view ≡ refused object b.seat pass.old.view) }
+        ensures other { IfErr result (λ b. IsOther pass.old.view b.seat) }
+    {
+        let slot = object as usize;
+        let shared = &self.table.shared;
+        let number = pass.number as u64;
+        let found = shared.compare_exchange::<Take>(&mut pass.seat, slot, 0, number);
+        if found != 0 {
+            return Err(Busy { seat: found as u32 });
+        }
+        let value = shared.exchange(&mut pass.seat, slot, None).unwrap();
+        pass.seat.turn();
+        pass.kept.push_reserved(object);
+        pass.fronts[slot] = value.length();
+        Ok(Held { object, value })
+    }
+    /// Takes an object, and waits while another pass has it. Whether a wait ends is up to the other threads.
+    pub fn hold<R: Wait>(&self, rt: &R, pass: &mut Pass<O>, object: u32) -> Held<O>
+        requires own { pass.old.desk ≡ self.now }
+        requires object { object < self.now.table.slots }
+        requires free { (spot pass.old.view object).phase ≡ Free }
+        ensures own { pass.new.desk ≡ pass.old.desk }
+        ensures object { result.object ≡ object }
+        ensures taken { TakesAfterRefusals pass.old.view object (O.history result.value) pass.new.view }
+        ensures kept { HasTaken pass.new.view object (O.history result.value) }
+        ensures seen { Continues pass.old.view object (O.history result.value) }
+        ensures replay { result.value
+            ≡ O.replay (fixed_at pass.old.view object) (O.history result.value) }
+        ensures fixed { O.fixed_number result.value ≡ fixed_at pass.old.view object }
+        ensures between { O.between (O.history result.value) ≡ true }
+    {
+        for _ in rt.forever() {
+            match self.try_hold(pass, object) {
+                Ok(held) => return held,
+                Err(busy) => self.table.shared.park(rt, object as usize, busy.seat),
+            }
+        }
+        unreachable!()
+    }
+
+    /// Writes the new tally. From this step on the object's history is published.
+    fn publish<W: Said<O::Entry>>(&self, seat: &mut TurnSeat<O>, slot: usize, value: &O)
+        requires own { seat.old.table_id ≡ self.now.table }
+        requires slot { slot < self.now.table.slots }
+        requires said { (W.object ≡ slot) × (W.log ≡ O.history value.now) }
+        requires taken { (spot seat.old.me.0 slot).phase ≡ Taken }
+        requires ready { seat.old.me.0.awaited ≡ 0 }
+        requires grown { Extends (spot seat.old.me.0 slot).known (O.history value.now) }
+        requires between { O.between (O.history value.now) ≡ true }
+        ensures own { (seat.new.table_id ≡ seat.old.table_id) × (seat.new.id ≡ seat.old.id) }
+        ensures published { seat.new.me ≡ (
+          published slot (O.history value.now) seat.old.me.0,
+          seat.old.me.1,
+        ) }
+    {
+        let tally = value.length() as u64 * (1 << 42) + value.summary();
+        let word = self.table.slot_count() + slot;
+        self.table.shared.swap::<Publish<W>>(seat, word, tally);
+    }
+
+    /// Publishes what was changed in one atomic step, gives the object back in another, and wakes those
+    /// that wait for it. Turning to the object's slot costs as much as this pass has objects.
+    pub fn release(&self, pass: &mut Pass<O>, held: Held<O>)
+        requires own { pass.old.desk ≡ self.now }
+        requires object { held.object < self.now.table.slots }
+        requires taken { (spot pass.old.view held.object).phase ≡ Taken }
+        requires grown { Extends (spot pass.old.view held.object).known (O.history held.value) }
+        requires fixed { O.fixed_number held.value ≡ fixed_at pass.old.view held.object }
+        requires between { O.between (O.history held.value) ≡ true }
+        ensures own { pass.new.desk ≡ pass.old.desk }
+        ensures released { pass.new.view
+            ≡ freed held.object (published held.object (O.history held.value) pass.old.view) }
+    {
+        let Held { object, value } = held;
+        let slot = object as usize;
+        let shared = &self.table.shared;
+        self.publish::<Brand>(&mut pass.seat, slot, &value);
+        pass.fronts[slot] = value.length();
+        let place = place_of(pass.kept.as_slice(), object);
+        turn_by(&mut pass.seat, place);
+        drop(shared.exchange(&mut pass.seat, slot, Some(value)));
+        shared.swap::<Give>(&mut pass.seat, slot, 0);
+        pass.kept.remove(place);
+        turn_by(&mut pass.seat, pass.kept.len() - place);
+        shared.wake_all(slot);
+    }
+}

@@ -1,0 +1,198 @@
+//! Making a desk: its table is vacant at first, the number of passes is brought, then each object is put
+//! in with its fixed number, and then the passes are made.
+ghost use Rattle.std.specs.Prelude.{◌≡◌, ◌≢◌, ◌<◌, ◌≤◌, ◌+◌, ◌*◌, true, [], ◌∷◌, ◌++◌, All, IfOk, length, map, replicate, vec_len, vec_capacity};
+ghost use Rattle.turn_desk.specs.declared.view.Phase.TheVariants.{Free};
+ghost use Rattle.turn_desk.specs.View.{spot, taken, brought, freed, seated, opening};
+ghost use Rattle.turn_desk.specs.Opening.{IsNew, opening_passes};
+
+use crate::desk::Desk;
+use crate::logged::Logged;
+use crate::pass::Pass;
+use crate::plays::{BringNumber, BringSeats, DeskTable, Give, MakeOne, Said, TakeVacant, TurnSeat};
+use atomic_table::Table;
+use love_base::Memory;
+use std::alloc::Global;
+use std::marker::Brand;
+
+/// The words of a desk of free objects with empty histories: a turn word for each, then a tally word.
+fn free_words(alloc: Global, objects: usize, summary: u64) -> Result<Vec<u64>, Memory>
+    ensures { IfOk result
+        (λ words. words.items ≡ replicate objects 0 ++ replicate objects summary) }
+{
+    let mut words = Vec::from_elem(alloc, 0, objects)?;
+    for _ in 0..objects {
+        words.push(summary)?;
+    }
+    Ok(words)
+}
+
+/// An empty row for the fronts of each pass.
+fn empty_rows(alloc: Global, seats: usize) -> Result<Vec<Vec<u32>>, Memory>
+    ensures { IfOk result (λ rows. vec_len rows ≡ seats) }
+{
+    let mut rows = Vec::with_capacity(alloc, seats)?;
+    for _ in 0..seats {
+        rows.push(Vec::new(alloc))?;
+    }
+    Ok(rows)
+}
+
+/// Brings the number of passes into the first view. It is passed for the proof alone.
+fn bring_seats<O: Logged, W: Said<O::Entry>>(
+    table: &DeskTable<O>,
+    seat: &mut TurnSeat<O>,
+    _seats: u32,
+)
+    requires own { seat.old.table_id ≡ table.now.shared.table_id }
+    requires word { 0 < table.now.shared.table_id.words }
+    requires said { W.number ≡ _seats }
+    requires few { (0 < _seats) × (_seats ≤ 17) }
+    requires first { (0 < seat.old.me.0.number) × (seat.old.me.0.next ≡ 2)
+        × (seat.old.me.0.seats ≡ 0) }
+    ensures own { seat.new.table_id ≡ seat.old.table_id }
+    ensures brought { seat.new.me ≡ (seated _seats seat.old.me.0, seat.old.me.1) }
+{
+    table.shared.load::<BringSeats<W>>(seat, 0);
+}
+
+/// Puts an object in, with its fixed number.
+fn put_in<O: Logged, W: Said<O::Entry>>(
+    table: &DeskTable<O>,
+    seat: &mut TurnSeat<O>,
+    object: usize,
+    value: O,
+)
+    requires own { seat.old.table_id ≡ table.now.shared.table_id }
+    requires object { (object < table.now.shared.table_id.slots)
+        × (table.now.shared.table_id.words ≡ 2 * table.now.shared.table_id.slots) }
+    requires said { (W.object ≡ object) × (W.number ≡ O.fixed_number value) }
+    requires fresh { O.history value ≡ [] }
+    requires first { (seat.old.me.0.number ≡ 1) × (seat.old.me.0.next ≡ 2)
+        × (seat.old.me.0.awaited ≡ object + 1) × (seat.old.me.0.handed ≡ []) }
+    requires wide { (length seat.old.me.0.spots ≡ table.now.shared.table_id.slots)
+        × (length seat.old.me.0.fixed ≡ table.now.shared.table_id.slots) }
+    requires free { (spot seat.old.me.0 object).phase ≡ Free }
+    ensures own { seat.new.table_id ≡ seat.old.table_id }
+    ensures put { seat.new.me
+        ≡ (freed object (brought object (O.fixed_number value) (taken object [] seat.old.me.0)), seat.old.me.1) }
+{
+    table
+        .shared
+        .compare_exchange::<TakeVacant>(seat, object, 0, 1);
+    table.shared.load::<BringNumber<W>>(seat, 0);
+    drop(table.shared.exchange(seat, object, Some(value)));
+    table.shared.swap::<Give>(seat, object, 0);
+}
+
+/// Puts all objects in, the last first.
+fn put_all<O: Logged>(table: &DeskTable<O>, seat: &mut TurnSeat<O>, mut objects: Vec<O>)
+    requires own { seat.old.table_id ≡ table.now.shared.table_id }
+    requires count { (vec_len objects ≡ table.now.shared.table_id.slots)
+        × (table.now.shared.table_id.words ≡ 2 * table.now.shared.table_id.slots) }
+    requires fresh { All (λ x. O.history x ≡ []) objects.items }
+    requires first { seat.old.me ≡ (
+      opening 1 2
+          seat.old.me.0.seats (vec_len objects) (replicate (vec_len objects) 0),
+      [],
+    ) }
+    ensures own { seat.new.table_id ≡ seat.old.table_id }
+    ensures full { seat.new.me ≡ (
+      opening 1 2 seat.old.me.0.seats 0
+          (map O.fixed_number objects.items),
+      [],
+    ) }
+{
+    while let Some(value) = objects.pop() {
+        put_in::<O, Brand>(table, seat, objects.len(), value);
+    }
+}
+
+/// The pass of a seat that was just made, with room for what it will have.
+fn make_pass<O: Logged>(
+    alloc: Global,
+    seat: TurnSeat<O>,
+    number: u32,
+    objects: usize,
+) -> Result<Pass<O>, Memory>
+    requires made { IsNew number seat.table_id seat.me }
+    requires objects { objects ≡ seat.table_id.slots }
+    ensures { IfOk result
+        (λ p. p ≡ record {
+          desk = record {
+            table = seat.table_id;
+            seats =
+                seat.me.0.seats;
+          };
+          view = seat.me.0;
+        }) }
+{
+    let fronts = Vec::from_elem(alloc, 0, objects)?;
+    let kept = Vec::with_capacity(alloc, objects)?;
+    Ok(Pass {
+        seat,
+        number,
+        fronts,
+        kept,
+    })
+}
+
+/// Makes the passes. The first one's seat makes the others.
+fn deal<O: Logged>(
+    alloc: Global,
+    table: &DeskTable<O>,
+    mut seat: TurnSeat<O>,
+    seats: u32,
+) -> Result<Vec<Pass<O>>, Memory>
+    requires own { (seat.table_id ≡ table.now.shared.table_id)
+        × (0 < table.now.shared.table_id.words) }
+    requires few { (0 < seats) × (seats ≤ 17) }
+    requires first { seat.me ≡ (opening 1 2 seats 0 seat.me.0.fixed, []) }
+    requires wide { length seat.me.0.fixed ≡ table.now.shared.table_id.slots }
+    ensures { IfOk result
+        (λ passes. passes.items ≡ opening_passes (record {
+          table =
+              seat.table_id;
+          seats = seats;
+        }) seat.me.0.fixed) }
+{
+    let objects = table.slot_count();
+    let mut passes = Vec::with_capacity(alloc, seats as usize)?;
+    for others in 0..seats - 1 {
+        let other = table.shared.split_seat::<MakeOne>(&mut seat);
+        let pass = make_pass(alloc, other, others + 2, objects)?;
+        passes.push(pass)?;
+    }
+    let first = make_pass(alloc, seat, 1, objects)?;
+    passes.insert(0, first)?;
+    Ok(passes)
+}
+
+impl<O: Logged> Desk<O> {
+    /// A desk of 1 to 1,026 objects and its 1 to 17 passes, numbered from 1, in order.
+    ///
+    /// Takes the room for all that the desk's other calls need.
+    pub fn new(
+        alloc: Global,
+        objects: Vec<O>,
+        seats: u32,
+    ) -> Result<(Desk<O>, Vec<Pass<O>>), Memory>
+        requires objects { (0 < vec_len objects) × (vec_len objects ≤ 1026) }
+        requires seats { (0 < seats) × (seats ≤ 17) }
+        requires fresh { All (λ x. O.history x ≡ []) objects.items }
+        requires between { All (λ x. O.between (O.history x) ≡ true) objects.items }
+        ensures objects { IfOk result (λ made. made.0.table.slots ≡ vec_len objects) }
+        ensures seats { IfOk result (λ made. made.0.seats ≡ seats) }
+        ensures passes { IfOk result
+            (λ made. made.1.items ≡ opening_passes made.0 (map O.fixed_number objects.items)) }
+    {
+        let count = objects.len();
+        let words = free_words(alloc, count, objects[0].summary())?;
+        let room = Vec::with_capacity(alloc, count)?;
+        let rows = empty_rows(alloc, seats as usize)?;
+        let (table, mut seat) = Table::vacant(alloc, words.as_slice(), count, &count)?;
+        bring_seats::<O, Brand>(&table, &mut seat, seats);
+        put_all(&table, &mut seat, objects);
+        let passes = deal(alloc, &table, seat, seats)?;
+        Ok((Desk { table, room, rows }, passes))
+    }
+}
