@@ -133,6 +133,7 @@ fn turns<R: Wait>(
 }
 
 /// A desk of four objects.
+#[tactic(auto, using(crate::proofs::Ready::all_ready))]
 fn opened(alloc: Global, seats: u32) -> Result<(Desk<Stamps>, Vec<Pass<Stamps>>), Memory>
     requires { (0 < seats) × (seats ≤ 17) }
     ensures objects { IfOk result (λ made. made.0.table.slots ≡ 4) }
@@ -212,6 +213,7 @@ fn at_locks<R: Threads + Wait + Sync>(
 }
 
 /// The time of so many turns that change nothing, behind a history of this length.
+#[tactic(auto, using(crate::proofs::Ready::last_ready))]
 fn behind<R: Wait + Clock>(
     rt: &R,
     alloc: Global,

@@ -1,6 +1,6 @@
 -- Joining all passes into one, and what stands then.
-use Rattle.std.proofs.Common.{◌≡◌, ◌≢◌, ◌⊎◌, ℕ, ◌+◌, ◌-◌, ◌<◌, ◌≤◌, ◌==◌, Bool, true, cond, zero, suc, List, [], ◌∷◌, ◌++◌, map, length, get_or, set, max, sym, refl, ap, ◌∙◌, subst, ⊎_elim, inl, inr, arith, Option, Some, None, All, Contains, sum_by, count_by, append_assoc, length-set, get_or-set_same, get_or-set_other, length-append}
-use Rattle.std.proofs.lemmas.List.{get_or_past, map-append, length-map}
+use Rattle.std.proofs.Common.{◌≡◌, ◌≢◌, ◌⊎◌, ℕ, ◌+◌, ◌-◌, ◌<◌, ◌≤◌, ◌==◌, Bool, zero, suc, List, [], ◌∷◌, ◌++◌, length, get_or, sym, refl, ap, ◌∙◌, subst, arith, Option, Some, sum_by, count_by, length-set, get_or-set_same, get_or-set_other}
+use Rattle.std.proofs.lemmas.List.{get_or_past}
 use Rattle.std.proofs.lemmas.List.Sums.{sum_by-cons}
 use Rattle.std.proofs.Math.Nat.{le-max_left, le-max_right}
 use mathlib.Core.Logic.{dite}
@@ -8,16 +8,15 @@ use mathlib.Core.Option.{some, none, some-injective, some-ne-none}
 use native.Mathlib.Decide.{dec_le, ℕ_discrete}
 use lib.ListN.{get_elem?}
 use Rattle.atomic_table.specs.Table.{State, Seen, Me}
-use Rattle.atomic_table.proofs.Lists.{at_longer, at_map, at_index}
+use Rattle.atomic_table.proofs.Lists.{at_longer}
 use Rattle.turn_desk.specs.declared.view.Own.{Own}
-use Rattle.turn_desk.specs.declared.view.Phase.TheVariants.{Free}
 use Rattle.turn_desk.specs.declared.view.Spot.{Spot}
 use Rattle.turn_desk.specs.declared.view.Told.{Told}
 use Rattle.turn_desk.specs.declared.view.View.{View}
 use Rattle.turn_desk.specs.View.{Extends, blank, spot, own_count, number_count, joined, both}
 use Rattle.turn_desk.specs.Rule.{World, Knows, Desked}
 use Rattle.turn_desk.specs.Closing.{HoldsNothing, fronts_of, gathered, placed, IsBack, Gathers}
-use Rattle.turn_desk.proofs.Lists.{at_below, at_either, sum_at, sum_alone}
+use Rattle.turn_desk.proofs.Lists.{sum_at, sum_alone}
 use Rattle.turn_desk.proofs.Rule.{given, same_seat, at_most_one}
 use Rattle.turn_desk.proofs.Seats.{alone_here, both_numbers, both_own_at}
 use Rattle.turn_desk.proofs.Views.{joined_spot, length_joined}

@@ -1,12 +1,11 @@
 -- The passes of a desk as they are made, one after another.
-use Rattle.std.proofs.Common.{◌≡◌, ℕ, ◌+◌, ◌<◌, ◌==◌, Bool, cond, zero, suc, List, [], ◌∷◌, ◌++◌, length, map, replicate, sym, refl, ap, ◌∙◌, arith, ne_eqb}
+use Rattle.std.proofs.Common.{◌≡◌, ℕ, ◌+◌, ◌<◌, ◌==◌, Bool, cond, zero, suc, List, [], ◌∷◌, ◌++◌, length, map, replicate, sym, ap, ◌∙◌, arith, ne_eqb}
 use Rattle.std.proofs.lemmas.List.{length-replicate, map-append}
 use Rattle.std.specs.List.{range_with_len}
 use Rattle.atomic_table.specs.Seated.{TableId}
-use Rattle.turn_desk.specs.declared.view.Spot.{Spot}
 use Rattle.turn_desk.specs.declared.view.View.{View}
 use Rattle.turn_desk.specs.Opening.{opening_pass, opening_passes}
-use Rattle.turn_desk.specs.Passes.{DeskId, Standing}
+use Rattle.turn_desk.specs.Passes.{Standing}
 use Rattle.turn_desk.specs.View.{blank, newcomer, opening}
 
 -- one number more

@@ -1,8 +1,8 @@
 -- Publishing an object's history and giving the object back keep the desk rule.
-use Rattle.std.proofs.Common.{◌≡◌, ◌≢◌, ◌⊎◌, ℕ, ◌+◌, ◌-◌, ◌*◌, ◌^◌, ◌<◌, ◌≤◌, ◌==◌, Bool, true, eqb, cond, zero, suc, List, [], ◌∷◌, ◌++◌, length, get_or, set, sym, refl, ap, ◌∙◌, subst, ⊎_elim, inl, inr, arith, Option, Some, None, length-set, get_or-set_other, get_or-set_same, eq-eqb, ne_eqb, sum_by, count_by, lt_of_not-le}
+use Rattle.std.proofs.Common.{◌≡◌, ◌≢◌, ◌⊎◌, ℕ, ◌+◌, ◌-◌, ◌*◌, ◌^◌, ◌<◌, ◌≤◌, ◌==◌, Bool, true, eqb, cond, zero, suc, List, ◌∷◌, ◌++◌, length, get_or, set, sym, refl, ap, ◌∙◌, subst, ⊎_elim, inl, inr, arith, Option, Some, length-set, get_or-set_other, get_or-set_same, eq-eqb, ne_eqb, count_by, lt_of_not-le}
 use Rattle.std.proofs.lemmas.List.Sums.{sum_by-cons, sum_by-append}
 use mathlib.Core.Logic.{dite}
-use mathlib.Core.Option.{some, none, some-injective}
+use mathlib.Core.Option.{some, none}
 use native.Mathlib.Decide.{dec_le, ℕ_discrete}
 use lib.ListN.{get_elem?}
 use Rattle.atomic_table.specs.Table.{State, Me, step, keeps, gives, Allows}
@@ -12,10 +12,10 @@ use Rattle.turn_desk.specs.declared.view.Phase.TheVariants.{Free, Taken, Publish
 use Rattle.turn_desk.specs.declared.view.Spot.{Spot}
 use Rattle.turn_desk.specs.declared.view.View.{View}
 use Rattle.turn_desk.specs.View.{Extends, places, spot, own_count, published, freed}
-use Rattle.turn_desk.specs.Rule.{World, Later, Knows, ObjectOk, Desked, tally_of}
+use Rattle.turn_desk.specs.Rule.{World, Later, ObjectOk, Desked, tally_of}
 use Rattle.turn_desk.specs.Steps.{put_out, gave}
 use Rattle.turn_desk.proofs.Lists.{whole, longer, set_there, sum_set}
-use Rattle.turn_desk.proofs.Rule.{one_seat, ChangesAt, restated, knows_spot, stays_known, same_sum, same_owned}
+use Rattle.turn_desk.proofs.Rule.{one_seat, restated, knows_spot, stays_known, same_sum, same_owned}
 use Rattle.turn_desk.proofs.Views.{at_spot, off_spot, taken_is_busy, published_is_busy}
 
 -- the new places stand once each among the places that were filled

@@ -1,6 +1,5 @@
 -- One pass after another is joined in.
-use Rattle.std.proofs.Common.{◌≡◌, ℕ, ◌+◌, ◌-◌, ◌<◌, ◌≤◌, Bool, true, cond, zero, suc, List, [], ◌∷◌, ◌++◌, map, length, get_or, set, sym, refl, ap, ◌∙◌, subst, arith, Option, None, append_assoc, count_by, sum_by}
-use Rattle.std.proofs.lemmas.List.{length-map}
+use Rattle.std.proofs.Common.{◌≡◌, ℕ, ◌+◌, ◌-◌, ◌<◌, ◌≤◌, cond, zero, suc, List, [], ◌∷◌, ◌++◌, map, length, get_or, set, sym, refl, ap, ◌∙◌, subst, arith, Option, append_assoc, count_by}
 use Rattle.std.proofs.lemmas.List.Sums.{sum_by-cons}
 use mathlib.Core.Option.{some, some-injective, some-ne-none}
 use lib.ListN.{get_elem?}
@@ -10,9 +9,9 @@ use Rattle.turn_desk.specs.declared.view.Phase.{Phase}
 use Rattle.turn_desk.specs.declared.view.Phase.TheVariants.{Free}
 use Rattle.turn_desk.specs.declared.view.Spot.{Spot}
 use Rattle.turn_desk.specs.declared.view.View.{View}
-use Rattle.turn_desk.specs.View.{blank, spot, both}
+use Rattle.turn_desk.specs.View.{blank, both}
 use Rattle.turn_desk.specs.Passes.{Keeps, is_free, free_count, empty_slot}
-use Rattle.turn_desk.specs.Closing.{HoldsNothing, fronts_of, gathered, placed, IsBack, Gathers}
+use Rattle.turn_desk.specs.Closing.{HoldsNothing, fronts_of, IsBack, Gathers}
 
 -- all objects are free, where no pass has one
 all_free : {E : Type 0} (spots : List (Spot E)) → ((o : ℕ) → (get_or spots o blank).phase ≡ Free) → count_by (λ (x : Spot E). is_free x.phase) spots ≡ length spots

@@ -1,5 +1,5 @@
 -- A pass between two calls, after it took an object and after it gave one back.
-use Rattle.std.proofs.Common.{◌≡◌, ◌≢◌, ℕ, ◌+◌, ◌<◌, ◌≤◌, Bool, cond, zero, suc, List, [], ◌∷◌, ◌++◌, map, length, get_or, set, take, drop, sym, refl, ap, ◌∙◌, subst, arith, Option, Some, None, length-set, length-append, Contains, replicate, count_by, sum_by, remove, ◌⊎◌, ⊎_elim, ◌-◌}
+use Rattle.std.proofs.Common.{◌≡◌, ◌≢◌, ℕ, ◌+◌, ◌<◌, ◌≤◌, cond, zero, suc, List, [], ◌∷◌, ◌++◌, map, length, get_or, set, take, drop, sym, refl, ap, ◌∙◌, subst, arith, Option, length-set, length-append, Contains, replicate, count_by, remove, ⊎_elim}
 use Rattle.std.proofs.lemmas.List.{length-replicate, map-set, map-append, take-map, drop-map}
 use Rattle.std.proofs.lemmas.List.Elements.{Contains-append_left, Contains-append_right, Contains-append_cases}
 use Rattle.std.proofs.lemmas.List.Edits.{length-remove}
@@ -10,10 +10,10 @@ use native.Mathlib.Decide.{ℕ_discrete}
 use Rattle.atomic_table.specs.Seated.{TableId}
 use Rattle.atomic_table.specs.Table.{Me}
 use Rattle.turn_desk.specs.declared.view.Phase.{Phase}
-use Rattle.turn_desk.specs.declared.view.Phase.TheVariants.{Free, Taken, Published}
+use Rattle.turn_desk.specs.declared.view.Phase.TheVariants.{Free, Taken}
 use Rattle.turn_desk.specs.declared.view.Spot.{Spot}
 use Rattle.turn_desk.specs.declared.view.View.{View}
-use Rattle.turn_desk.specs.View.{blank, spot, with_spot, taken, published, freed, places}
+use Rattle.turn_desk.specs.View.{blank, spot, with_spot, taken, published, freed}
 use Rattle.turn_desk.specs.Opening.{IsNew}
 use Rattle.turn_desk.specs.Passes.{Keeps, is_free, free_count, empty_slot}
 use Rattle.turn_desk.proofs.Gives.{published_spot}

@@ -1,15 +1,15 @@
 -- For callers: what is known of a pass after its turns, and of the passes of a desk that was just made.
-use Rattle.std.proofs.Common.{◌≡◌, ◌≢◌, ℕ, ◌+◌, ◌<◌, ◌≤◌, ◌==◌, Bool, cond, zero, suc, List, [], ◌∷◌, ◌++◌, map, length, get_or, set, replicate, sym, refl, ap, ◌∙◌, subst, arith, All, Contains, length-set, ◌-◌}
+use Rattle.std.proofs.Common.{◌≡◌, ◌≢◌, ℕ, ◌+◌, ◌<◌, ◌≤◌, ◌==◌, cond, zero, suc, List, [], ◌∷◌, ◌++◌, map, length, get_or, set, sym, refl, ap, ◌∙◌, subst, arith, All, Contains, length-set, ◌-◌}
 use Rattle.std.specs.List.{range_with_len}
 use Rattle.std.proofs.lemmas.List.{get_or_past, length-map}
-use Rattle.std.proofs.lemmas.List.FromFn.{length-range_with_len, get_or-range_with_len}
+use Rattle.std.proofs.lemmas.List.FromFn.{length-range_with_len}
 use mathlib.Core.Logic.{dite}
-use mathlib.Core.Option.{some, some-injective}
+use mathlib.Core.Option.{some-injective}
 use native.Mathlib.Decide.{dec_le, ℕ_discrete}
-use Rattle.turn_desk.specs.declared.view.Phase.TheVariants.{Free, Taken}
+use Rattle.turn_desk.specs.declared.view.Phase.TheVariants.{Free}
 use Rattle.turn_desk.specs.declared.view.Spot.{Spot}
 use Rattle.turn_desk.specs.declared.view.View.{View}
-use Rattle.turn_desk.specs.View.{Extends, blank, spot, with_spot, taken, published, freed, opening}
+use Rattle.turn_desk.specs.View.{blank, spot, published, freed, opening}
 use Rattle.turn_desk.specs.Steps.{TakesAfterRefusals}
 use Rattle.turn_desk.specs.Passes.{DeskId, Standing}
 use Rattle.turn_desk.specs.Opening.{opening_pass, opening_passes}

@@ -1,5 +1,5 @@
 -- The row of slots that a seat keeps, turned until one of them is the first.
-use Rattle.std.proofs.Common.{◌-◌, map, None, length-append, ◌≡◌, ℕ, ◌+◌, ◌<◌, ◌≤◌, zero, suc, List, [], ◌∷◌, ◌++◌, length, take, drop, sym, refl, ap, ◌∙◌, arith, append_assoc, get_or, Option, Some}
+use Rattle.std.proofs.Common.{◌-◌, map, None, length-append, ◌≡◌, ℕ, ◌+◌, ◌<◌, zero, suc, List, [], ◌∷◌, ◌++◌, length, take, drop, sym, refl, ap, ◌∙◌, arith, append_assoc, get_or, Option, Some}
 use Rattle.std.proofs.lemmas.List.{drop-map, length-drop, length-map, length-take-le}
 use Rattle.std.proofs.Math.Seq.{drop-cons, drop-append_seam, take-append_seam}
 use Rattle.atomic_table.specs.Table.{turned, rest}

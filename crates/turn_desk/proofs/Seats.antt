@@ -1,10 +1,10 @@
 -- Making a pass and joining one into another keep the desk rule.
-use Rattle.std.proofs.Common.{◌≡◌, ◌≢◌, ◌⊎◌, ℕ, ◌+◌, ◌<◌, ◌≤◌, ◌==◌, Bool, eqb, cond, zero, suc, List, [], ◌∷◌, ◌++◌, length, get_or, set, max, sym, refl, ap, ◌∙◌, subst, ⊎_elim, inl, inr, arith, Option, length-set, eq-eqb, ne_eqb, sum_by, count_by, replicate}
+use Rattle.std.proofs.Common.{◌≡◌, ◌≢◌, ℕ, ◌+◌, ◌<◌, ◌≤◌, ◌==◌, Bool, cond, zero, suc, List, [], ◌∷◌, ◌++◌, length, get_or, set, max, sym, refl, ap, ◌∙◌, subst, ⊎_elim, inl, inr, arith, Option, eq-eqb, ne_eqb, sum_by, count_by}
 use Rattle.std.proofs.lemmas.List.{get_or_past, length-replicate}
 use Rattle.std.proofs.lemmas.List.Sums.{sum_by_push, sum_by-append}
 use Rattle.std.proofs.Math.Nat.{le-max_left, max-le}
 use mathlib.Core.Logic.{dite}
-use mathlib.Core.Option.{some, none, some-injective, some-ne-none}
+use mathlib.Core.Option.{some, some-injective, some-ne-none}
 use native.Mathlib.Decide.{dec_le, ℕ_discrete}
 use lib.ListN.{get_elem?}
 use Rattle.atomic_table.specs.Table.{State, Splits, Joins}
@@ -16,7 +16,7 @@ use Rattle.turn_desk.specs.declared.view.Told.{Told}
 use Rattle.turn_desk.specs.declared.view.View.{View}
 use Rattle.turn_desk.specs.View.{Extends, blank, spot, own_count, number_count, makes_one, newcomer, joined, all_joined, both, spent}
 use Rattle.turn_desk.specs.Rule.{World, Knows, Named, ObjectOk, Desked}
-use Rattle.turn_desk.proofs.Lists.{further, set_there, at_either, at_end, sum_set}
+use Rattle.turn_desk.proofs.Lists.{set_there, at_either, at_end, sum_set}
 use Rattle.turn_desk.proofs.Views.{blank_spot, joined_spot, length_joined}
 
 -- a number stands once in the list of itself, and no other does

@@ -1,5 +1,5 @@
 -- Setting up: bringing the number of passes and the fixed numbers, while one pass alone was made, keeps the desk rule.
-use Rattle.std.proofs.Common.{◌≡◌, ◌≢◌, ◌⊎◌, ℕ, ◌+◌, ◌*◌, ◌<◌, ◌≤◌, Bool, eqb, cond, List, [], ◌∷◌, length, get_or, set, sym, refl, ap, ◌∙◌, subst, ⊎_elim, arith, Option, length-set, get_or-set_other, get_or-set_same, eq-eqb, ne_eqb}
+use Rattle.std.proofs.Common.{◌≡◌, ◌≢◌, ℕ, ◌+◌, ◌<◌, ◌≤◌, Bool, eqb, cond, List, [], length, get_or, set, sym, refl, ap, ◌∙◌, subst, ⊎_elim, arith, Option, length-set, get_or-set_other, get_or-set_same, eq-eqb, ne_eqb}
 use Rattle.std.proofs.lemmas.List.{set-get_or}
 use mathlib.Core.Logic.{dite}
 use mathlib.Core.Option.{some, none, some-ne-none}
@@ -13,7 +13,7 @@ use Rattle.turn_desk.specs.View.{spot, own_count, seated, brought}
 use Rattle.turn_desk.specs.Rule.{World, Knows, ObjectOk, Desked}
 use Rattle.turn_desk.specs.Steps.{seats_brought, number_brought}
 use Rattle.turn_desk.proofs.Lists.{set_there}
-use Rattle.turn_desk.proofs.Rule.{ChangesAt, restated, same_sum}
+use Rattle.turn_desk.proofs.Rule.{restated, same_sum}
 use Rattle.turn_desk.proofs.Takes.{alone}
 use Rattle.turn_desk.proofs.Gives.{sole}
 

@@ -1,5 +1,5 @@
 -- What stands of a desk once its table is closed, in the terms of the passes that were given back.
-use Rattle.std.proofs.Common.{◌≡◌, ◌⊎◌, ℕ, ◌+◌, ◌-◌, ◌<◌, ◌≤◌, Bool, zero, suc, List, [], ◌∷◌, ◌++◌, map, length, get_or, set, sym, refl, ap, ◌∙◌, subst, arith, Option, Some, None, All, Contains, sum_by, slice_get, take, false, get_or-set_same, get_or-set_other}
+use Rattle.std.proofs.Common.{◌≡◌, ◌⊎◌, ℕ, ◌+◌, ◌-◌, ◌<◌, ◌≤◌, Bool, zero, suc, List, [], ◌∷◌, ◌++◌, map, length, get_or, set, sym, refl, ap, ◌∙◌, subst, arith, Option, Some, All, Contains, sum_by, slice_get, take, false, get_or-set_same, get_or-set_other}
 use Rattle.std.proofs.lemmas.List.{length-map}
 use Rattle.std.proofs.lemmas.List.Sums.{sum_by-cons}
 use mathlib.Core.Logic.{dite}
@@ -12,7 +12,7 @@ use Rattle.turn_desk.specs.declared.view.View.{View}
 use Rattle.turn_desk.specs.View.{Extends, blank, spot, own_count, number_count}
 use Rattle.turn_desk.specs.Rule.{Desked}
 use Rattle.turn_desk.specs.Passes.{Standing, fixed_at}
-use Rattle.turn_desk.specs.Closing.{numbers_of, views_of, own_total, front_of, fronts_of, placed, gathered, IsBack, Gathers, AtEach, AllFilled}
+use Rattle.turn_desk.specs.Closing.{numbers_of, views_of, own_total, front_of, fronts_of, gathered, Gathers, AtEach, AllFilled}
 use Rattle.turn_desk.proofs.Lists.{at_below, sum_at}
 use Rattle.turn_desk.proofs.AllBack.{IsHome, all_home, numbers_apart, numbered, placed_row, placed_length}
 

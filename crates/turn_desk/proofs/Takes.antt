@@ -1,24 +1,22 @@
 -- Taking an object keeps the desk rule.
-use Rattle.std.proofs.Common.{◌≡◌, ◌≢◌, ◌⊎◌, ℕ, ◌+◌, ◌*◌, ◌^◌, ◌<◌, ◌≤◌, Bool, eqb, List, [], ◌∷◌, ◌++◌, length, get_or, set, sym, refl, ap, ◌∙◌, subst, ⊎_elim, inl, inr, arith, Option, Some, None, length-set, get_or-set_other, get_or-set_same}
+use Rattle.std.proofs.Common.{◌≡◌, ◌≢◌, ℕ, ◌+◌, ◌*◌, ◌<◌, ◌≤◌, Bool, eqb, List, [], length, get_or, set, sym, refl, ap, ◌∙◌, subst, ⊎_elim, arith, Option, Some, None, length-set, get_or-set_other, get_or-set_same}
 use Rattle.std.proofs.lemmas.List.{set-get_or}
 use mathlib.Core.Logic.{dite}
 use mathlib.Core.Option.{some, none, some-injective}
-use mathlib.Core.Option as maybe
 use native.Mathlib.Decide.{ℕ_discrete}
 use lib.ListN.{get_elem?}
 use prog.Atomic.{either}
 use Rattle.atomic_table.specs.Table.{State, Me, step, Act, keeps, takes, stepped, Allows, Valid, carried_after}
 use Rattle.atomic_table.proofs.Lists.{at_set, set_here, set_else, exchanged}
-use Rattle.turn_desk.specs.declared.view.Phase.{Phase}
 use Rattle.turn_desk.specs.declared.view.Phase.TheVariants.{Free, Taken}
 use Rattle.turn_desk.specs.declared.view.Refusal.{Refusal}
 use Rattle.turn_desk.specs.declared.view.Spot.{Spot}
 use Rattle.turn_desk.specs.declared.view.View.{View}
 use Rattle.turn_desk.specs.View.{Extends, spot, own_count, taken, refused}
-use Rattle.turn_desk.specs.Rule.{World, Later, Knows, ObjectOk, Desked}
-use Rattle.turn_desk.specs.Steps.{Continues, IsOther, IsGot, took, took_vacant}
+use Rattle.turn_desk.specs.Rule.{World, Knows, ObjectOk, Desked}
+use Rattle.turn_desk.specs.Steps.{took, took_vacant}
 use Rattle.turn_desk.proofs.Lists.{whole, set_there, at_end}
-use Rattle.turn_desk.proofs.Rule.{given, one_seat, ChangesAt, Unmoved, Agrees, restated, knows_spot, same_sum, same_owned}
+use Rattle.turn_desk.proofs.Rule.{given, one_seat, ChangesAt, restated, knows_spot, same_sum, same_owned}
 use Rattle.turn_desk.proofs.Views.{at_spot, off_spot, taken_is_busy}
 
 module _ {E : Type 0} where

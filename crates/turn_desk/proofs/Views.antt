@@ -1,5 +1,5 @@
 -- What is known of one object after a change of what is known.
-use Rattle.std.proofs.Common.{◌≡◌, ◌≢◌, ℕ, ◌+◌, ◌<◌, ◌≤◌, zero, suc, List, [], ◌∷◌, ◌++◌, length, get_or, set, sym, refl, ap, ◌∙◌, arith, get_or-set_other, get_or-set_same, replicate, subst, append_assoc}
+use Rattle.std.proofs.Common.{◌≡◌, ◌≢◌, ℕ, ◌<◌, zero, suc, List, [], ◌∷◌, ◌++◌, length, get_or, refl, ap, ◌∙◌, arith, get_or-set_other, get_or-set_same, replicate, subst, append_assoc}
 use Rattle.std.proofs.lemmas.List.Elements.{All-push}
 use Rattle.turn_desk.specs.declared.view.Refusal.{Refusal}
 use Rattle.turn_desk.specs.declared.view.Phase.TheVariants.{Free, Taken, Published}

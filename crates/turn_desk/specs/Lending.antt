@@ -1,7 +1,6 @@
 -- What a write through a held object does.
 use Rattle.std.specs.Borrow.{Lends, MutBor, Fml}
 use denote.RattleType.{RattleType}
-use Rattle.turn_desk.specs.declared.held.Held.{Held}
 use Rattle.turn_desk.specs.contracts.held.Held.{the_row}
 
 -- once the borrow is over, the held object is what was written last

@@ -4,7 +4,7 @@ use mathlib.Core.Option.{some, none}
 use mathlib.Core.Option as maybe
 use lib.ListN.{get_elem?}
 use Rattle.atomic_table.specs.Table.{State}
-use Rattle.turn_desk.specs.declared.view.Phase.TheVariants.{Free, Taken, Published}
+use Rattle.turn_desk.specs.declared.view.Phase.TheVariants.{Free}
 use Rattle.turn_desk.specs.declared.view.Refusal.{Refusal}
 use Rattle.turn_desk.specs.declared.view.Told.{Told}
 use Rattle.turn_desk.specs.declared.view.View.{View}

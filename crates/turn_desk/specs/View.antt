@@ -3,9 +3,7 @@ use Rattle.std.specs.Prelude.{◌≡◌, ℕ, ◌+◌, ◌-◌, ◌==◌, max, L
 use Rattle.std.proofs.Common.{zero, suc}
 use Rattle.turn_desk.specs.declared.view.Own.{Own}
 use Rattle.turn_desk.specs.declared.view.Phase.TheVariants.{Free, Taken, Published}
-use Rattle.turn_desk.specs.declared.view.Refusal.{Refusal}
 use Rattle.turn_desk.specs.declared.view.Spot.{Spot}
-use Rattle.turn_desk.specs.declared.view.Told.{Told}
 use Rattle.turn_desk.specs.declared.view.View.{View}
 
 -- the second list begins with the first

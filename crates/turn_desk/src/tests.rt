@@ -3,7 +3,7 @@ ghost use Rattle.std.specs.Prelude.{◌≡◌, ◌≢◌, ℕ, ◌+◌, ◌==◌
 ghost use Rattle.turn_desk.specs.View.{Extends};
 ghost use Rattle.turn_desk.specs.Closing.{AreNumbered, HoldsNothing, IsReady};
 
-use crate::{Busy, Desk, Fronts, Held, Logged, Pass};
+use crate::{Bell, Busy, Desk, Fronts, Logged, Pass};
 use love_base::{Memory, Stamp};
 use std::alloc::{AllocError, Global};
 use std::marker::Model;
@@ -193,12 +193,23 @@ fn try_turn(desk: &Desk<Ledger>, pass: &mut Pass<Ledger>, object: u32) -> Option
     }
 }
 
-/// What the second pass finds at the first object and at the second while the first pass has the first.
+/// What two passes meet with while the first has an object.
+#[derive(Debug, PartialEq, Eq, Drop)]
+struct Meeting {
+    /// What the first pass took, and whether it had no history.
+    taken: u32,
+    empty: bool,
+    /// Whose number the second pass found there, and at the next object.
+    found: Option<u32>,
+    next: Option<u32>,
+}
+
+/// Lets the second pass try while the first has an object.
 fn meets(
     desk: &Desk<Ledger>,
     first: &mut Pass<Ledger>,
     second: &mut Pass<Ledger>,
-) -> Option<(Option<u32>, Option<u32>)>
+) -> Option<Meeting>
     requires first { IsReady desk.now first.old }
     requires second { IsReady desk.now second.old }
     requires objects { desk.now.table.slots ≡ 3 }
@@ -206,9 +217,17 @@ fn meets(
     let Ok(held) = desk.try_hold(first, 0) else {
         return None;
     };
-    let found = (try_turn(desk, second, 0), try_turn(desk, second, 1));
+    let taken = held.object();
+    let empty = held.value().stamps().is_empty();
+    let found = try_turn(desk, second, 0);
+    let next = try_turn(desk, second, 1);
     desk.release(first, held);
-    Some(found)
+    Some(Meeting {
+        taken,
+        empty,
+        found,
+        next,
+    })
 }
 
 /// A desk of three empty ledgers.
@@ -341,7 +360,7 @@ fn four_threads_nest_three_objects(rt: HostRuntime) -> Result<(), Fail> {
 }
 
 #[tactic(auto, using(crate::proofs::Ready::ready_last, crate::proofs::Ready::ready_front))]
-fn two_meet(alloc: Global) -> Result<Option<(Option<u32>, Option<u32>)>, Memory> {
+fn two_meet(alloc: Global) -> Result<Option<Meeting>, Memory> {
     let (desk, mut passes) = opened(alloc, 2)?;
     let Some(mut second) = passes.pop() else {
         return Ok(None);
@@ -354,7 +373,23 @@ fn two_meet(alloc: Global) -> Result<Option<(Option<u32>, Option<u32>)>, Memory>
 
 #[test]
 fn a_busy_object_names_its_pass(rt: HostRuntime) -> Result<(), Fail> {
-    let found = two_meet(rt.alloc()).ok().expect(&rt, "memory");
-    assert!(rt; found == Some((Some(1), None)));
+    let met = two_meet(rt.alloc()).ok().expect(&rt, "memory");
+    let expected = Meeting {
+        taken: 0,
+        empty: true,
+        found: Some(1),
+        next: None,
+    };
+    assert!(rt; met == Some(expected));
+    Ok(())
+}
+
+#[test]
+fn a_bell_counts_its_rings(rt: HostRuntime) -> Result<(), Fail> {
+    let bell = Bell::new();
+    bell.ring(&rt);
+    bell.ring(&rt);
+    bell.wait_past(&rt, 1);
+    assert!(rt; bell.number(&rt) == 2);
     Ok(())
 }

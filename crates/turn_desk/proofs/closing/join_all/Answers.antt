@@ -1,4 +1,4 @@
-use Rattle.std.proofs.Common.{rules, ◌≡◌, ◌<◌, ◌≤◌, ◌-◌, [], ◌∷◌, ◌++◌, All, map, length, set, vec_len, sym, subst, refl, ap, ◌∙◌, arith}
+use Rattle.std.proofs.Common.{◌≡◌, ◌<◌, ◌-◌, [], ◌∷◌, ◌++◌, All, vec_len, sym, subst, refl, ap, ◌∙◌, arith}
 use Rattle.std.proofs.lemmas.List.{map-append, map-set}
 use Rattle.turn_desk.specs.Closing.{HoldsNothing, views_of}
 use Rattle.turn_desk.proofs.AllBack.{gathers_real}

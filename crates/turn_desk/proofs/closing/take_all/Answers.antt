@@ -1,4 +1,4 @@
-use Rattle.std.proofs.Common.{rules, ◌≡◌, ◌<◌, ◌≤◌, ◌+◌, ◌∷◌, ◌++◌, [], Some, suc, map, take, length, get_or, sym, subst, refl, ap, ◌∙◌, arith, false}
+use Rattle.std.proofs.Common.{◌+◌, ◌∷◌, ◌++◌, [], Some, map, get_or, sym, subst, refl, ap, ◌∙◌, arith, false}
 use Rattle.std.proofs.lemmas.List.{map-append, get_or-set_other}
 use Rattle.std.specs.Option.{IsSome}
 use Rattle.std.specs.Slots.{slots_counts}

@@ -1,4 +1,4 @@
-use Rattle.std.proofs.Common.{rules, ◌≡◌, ◌++◌, take, drop, append-nil, sym, refl, ap, ◌∙◌, arith}
+use Rattle.std.proofs.Common.{append-nil, sym, refl, ap, ◌∙◌, arith}
 use Rattle.atomic_table.specs.Table.{turned}
 use Rattle.turn_desk.proofs.Rows.{turned_once}
 use Rattle.turn_desk.proofs.kept.turn_by.Goals as goal

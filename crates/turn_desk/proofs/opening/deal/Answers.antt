@@ -1,4 +1,4 @@
-use Rattle.std.proofs.Common.{rules, ◌≡◌, ◌<◌, ◌≤◌, ◌+◌, [], sym, subst, refl, ap, ◌∙◌, arith}
+use Rattle.std.proofs.Common.{◌≡◌, ◌<◌, ◌≤◌, ◌+◌, [], sym, subst, ap, ◌∙◌, arith}
 use Rattle.turn_desk.specs.View.{makes_one, newcomer, opening}
 use Rattle.turn_desk.proofs.Dealing.{deal_one, deal_all}
 use Rattle.turn_desk.proofs.Seats.{can_split}

@@ -1,4 +1,4 @@
-use Rattle.std.proofs.Common.{rules, ◌≡◌, replicate, sym, refl, ap, ◌∙◌, arith}
+use Rattle.std.proofs.Common.{rules, ◌≡◌, replicate, ap, ◌∙◌, arith}
 use Rattle.turn_desk.proofs.Keeping.{keeps_new}
 use Rattle.turn_desk.proofs.opening.make_pass.Goals as goal
 

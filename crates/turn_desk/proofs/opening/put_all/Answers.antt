@@ -1,4 +1,4 @@
-use Rattle.std.proofs.Common.{◌≡◌, ℕ, ◌+◌, [], ◌∷◌, ◌++◌, All, map, replicate, vec_len, append_assoc, sym, subst, refl, ap, ◌∙◌, arith}
+use Rattle.std.proofs.Common.{◌≡◌, ℕ, ◌+◌, [], ◌∷◌, ◌++◌, All, map, replicate, vec_len, append_assoc, sym, subst, ap, ◌∙◌, arith}
 use Rattle.std.proofs.lemmas.List.{map-append}
 use Rattle.turn_desk.specs.View.{taken, brought, freed, opening}
 use Rattle.turn_desk.proofs.Lists.{all_front, all_last}

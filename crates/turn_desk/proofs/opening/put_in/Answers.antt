@@ -1,7 +1,6 @@
-use Rattle.std.proofs.Common.{rules, ℕ, ◌≡◌, ◌≢◌, ◌<◌, ◌∷◌, [], None, Some, get_or, get_or-set_same, length, sym, subst, ap, ◌∙◌, refl, arith}
-use Rattle.atomic_table.specs.Table.{rest}
-use Rattle.turn_desk.specs.declared.view.Phase.TheVariants.{Free, Taken}
-use Rattle.turn_desk.specs.View.{spot, taken, brought}
+use Rattle.std.proofs.Common.{rules, ℕ, ◌≢◌, ◌<◌, [], get_or, get_or-set_same, length, sym, subst, ap, ◌∙◌, arith}
+use Rattle.turn_desk.specs.declared.view.Phase.TheVariants.{Free}
+use Rattle.turn_desk.specs.View.{spot, brought}
 use Rattle.turn_desk.proofs.Gives.{can_give}
 use Rattle.turn_desk.proofs.SetUp.{can_bring_number}
 use Rattle.turn_desk.proofs.Takes.{can_take_vacant, taken_spot}

@@ -1,7 +1,4 @@
-use Rattle.std.proofs.Common.{rules, ◌≡◌, [], true, None, replicate, sym, subst, ap, ◌∙◌}
-use Rattle.atomic_table.specs.Table.{opening as table_opening}
-use Rattle.turn_desk.specs.Rule.{Desked}
-use Rattle.turn_desk.specs.View.{opening}
+use Rattle.std.proofs.Common.{rules, ◌≡◌, [], true, sym, ap, ◌∙◌}
 use Rattle.turn_desk.proofs.Vacant.{opens}
 use Rattle.turn_desk.proofs.desk.Desk.new.Goals as goal
 

@@ -1,4 +1,4 @@
-use Rattle.std.proofs.Common.{rules, ◌≡◌, ◌+◌, ◌*◌, ◌^◌, length, ℕ, sym, subst, ap, ◌∙◌, arith}
+use Rattle.std.proofs.Common.{rules, arith}
 use Rattle.turn_desk.proofs.Gives.{can_publish}
 use Rattle.turn_desk.proofs.desk.Desk.publish.Goals as goal
 

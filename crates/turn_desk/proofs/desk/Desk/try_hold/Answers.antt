@@ -1,4 +1,4 @@
-use Rattle.std.proofs.Common.{rules, set, [], ◌<◌, ◌≡◌, ◌∷◌, ◌++◌, Some, None, sym, subst, ap, ◌∙◌, arith, length, length-append}
+use Rattle.std.proofs.Common.{rules, set, [], ◌<◌, ◌≡◌, ◌∷◌, ◌++◌, Some, None, sym, ap, ◌∙◌, arith, length}
 use Rattle.atomic_table.specs.Table.{turned, rest}
 use Rattle.turn_desk.specs.declared.view.Phase.TheVariants.{Free}
 use Rattle.turn_desk.specs.View.{spot}
