@@ -11,4 +11,4 @@ mkdir -p "$scratch/crates/desk_bench"
 cp -r "$here/src" "$here/proofs" "$scratch/crates/desk_bench/"
 cp "$root/HANDLES" "$scratch/"
 printf 'love_base:\nturn_desk: love_base atomic_table\ndesk_bench: love_base turn_desk\n' > "$scratch/crates.txt"
-cd "$scratch" && rt run desk_bench
+cd "$scratch/crates/desk_bench" && rt run
