@@ -13,4 +13,4 @@ cp -r "$here/src" "$here/proofs" "$scratch/crates/desk_bench/"
 find "$scratch/crates/desk_bench" -name '*.txt' | while read -r file; do mv "$file" "${file%.txt}"; done
 cp "$root/HANDLES" "$scratch/"
 printf 'love_base:\nturn_desk: love_base atomic_table\ndesk_bench: love_base turn_desk\n' > "$scratch/crates.txt"
-cd "$scratch" && rt run desk_bench
+cd "$scratch/crates/desk_bench" && rt run
