@@ -3,7 +3,8 @@
 # the source takes over six times as long.
 #
 # The program is laid beside copies of the crates that it stands on, so that the repository's gate does not
-# build it; its files end in .txt here, since the gate refuses a source file of no crate. It is proved and built there, which takes some minutes the first time.
+# build it; its files end in .txt here, since the gate refuses a source file of no crate. It is proved and built
+# there, which takes some minutes the first time.
 #
 # usage: bench/tokens/run.sh [FOLDER]    FOLDER keeps what was built, for the next run
 set -eu
