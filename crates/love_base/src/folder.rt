@@ -29,11 +29,13 @@ impl From<Memory> for FolderErr {
 
 /// A folder of files, as a game is one.
 pub trait Folder {
-    /// How many calls have failed so far. A count that reaches the end of its type stays there.
+    /// How many calls have failed so far: only a failure raises it. A count that reaches the end of its
+    /// type stays there.
     ghost faults: { Self → ℕ };
 
-    /// The files, where the folder tells them. Those of the real file system don't.
-    ghost files: { Self → Option (List File) };
+    /// The files below a folder, by its path, where the folder tells them. Those of the real file system
+    /// don't.
+    ghost files: { Self → List ℕ → Option (List File) };
 
     /// How many calls were made, as far as the folder counts them.
     ghost calls: { Self → ℕ };
@@ -45,10 +47,11 @@ pub trait Folder {
     /// [`FolderErr::Failed`] where the folder can't be read, [`FolderErr::Memory`] where there is no
     /// room for the paths.
     fn list(&mut self, alloc: Global, at: &Text) -> Result<Vec<Text>, FolderErr>
-        ensures told { IfOk result (λ names. IfSome (files self.old) (λ files. names.items ≡ paths files)) }
+        ensures told { IfOk result (λ names. IfSome (files self.old at.now) (λ files. names.items ≡ paths files)) }
         ensures differ { IfOk result (λ names. IsDistinct (pointwise nat_eq) names.items) }
         ensures failed { IsErrOf result FolderErr.Failed → HasRisen (faults self.old) (faults self.new) }
         ensures counted { faults self.old ≤ faults self.new }
+        ensures steady { ¬ IsErrOf result FolderErr.Failed → faults self.new ≡ faults self.old }
         ensures called { calls self.new ≤ calls self.old + 1 }
         ensures kept { files self.new ≡ files self.old };
 
@@ -59,10 +62,11 @@ pub trait Folder {
     /// [`FolderErr::Failed`] where the file can't be read, [`FolderErr::Memory`] where there is no room
     /// for its bytes.
     fn read(&mut self, alloc: Global, at: &Text, name: &Text) -> Result<Vec<u8>, FolderErr>
-        requires { ForSome (files self.old) (λ files. IsSome (content files name.now)) }
-        ensures told { IfOk result (λ bytes. IfSome (files self.old) (λ files. content files name.now ≡ Option.Some bytes.items)) }
+        requires { ForSome (files self.old at.now) (λ files. IsSome (content files name.now)) }
+        ensures told { IfOk result (λ bytes. IfSome (files self.old at.now) (λ files. content files name.now ≡ Option.Some bytes.items)) }
         ensures failed { IsErrOf result FolderErr.Failed → HasRisen (faults self.old) (faults self.new) }
         ensures counted { faults self.old ≤ faults self.new }
+        ensures steady { ¬ IsErrOf result FolderErr.Failed → faults self.new ≡ faults self.old }
         ensures called { calls self.new ≤ calls self.old + 1 }
         ensures kept { files self.new ≡ files self.old };
 }

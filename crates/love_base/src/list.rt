@@ -1,4 +1,4 @@
-ghost use Rattle.std.specs.Prelude.{◌≡◌, [], ◌∷◌, ◌++◌, length, slice_get, OnOk, OnErr, IfErr};
+ghost use Rattle.std.specs.Prelude.{◌≡◌, [], ◌∷◌, ◌++◌, ◌↔◌, length, slice_get, OnOk, OnErr, IfErr, IsTrue};
 ghost use Rattle.std.specs.Option.{option_copied};
 
 use crate::Memory;
@@ -69,6 +69,13 @@ impl<T> List<T> {
         ensures { result ≡ length self.now }
     {
         self.items.len()
+    }
+
+    /// Whether there are no items, in constant time.
+    pub fn is_empty(&self) -> bool
+        ensures { IsTrue result ↔ (self.now ≡ []) }
+    {
+        self.items.is_empty()
     }
 
     /// The items in order, in constant time.

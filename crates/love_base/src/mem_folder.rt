@@ -46,7 +46,7 @@ impl MemFolder {
 impl Folder for MemFolder {
     ghost faults = { λ folder. folder.script.faults };
 
-    ghost files = { λ folder. Option.Some folder.files };
+    ghost files = { λ folder _. Option.Some folder.files };
 
     ghost calls = { λ folder. folder.script.calls };
 

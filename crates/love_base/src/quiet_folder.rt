@@ -39,7 +39,7 @@ impl QuietFolder {
 impl Folder for QuietFolder {
     ghost faults = { λ _. 0 };
 
-    ghost files = { λ folder. Option.Some folder };
+    ghost files = { λ folder _. Option.Some folder };
 
     ghost calls = { λ _. 0 };
 

@@ -58,7 +58,7 @@ impl<R: Files + AllocGlobal + Clone + Drop> RealFolder<R> {
 impl<R: Files + AllocGlobal + Clone + Drop> Folder for RealFolder<R> {
     ghost faults = { λ folder. folder };
 
-    ghost files = { λ _. Option.None };
+    ghost files = { λ _ _. Option.None };
 
     ghost calls = { λ _. 0 };
 

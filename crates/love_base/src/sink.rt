@@ -13,7 +13,8 @@ pub enum SinkErr {
 
 /// Where the printed bytes go.
 pub trait Sink {
-    /// How many calls have failed so far. A count that reaches the end of its type stays there.
+    /// How many calls have failed so far: only a failure raises it. A count that reaches the end of its
+    /// type stays there.
     ghost faults: { Self → ℕ };
 
     /// The bytes taken so far, where the sink tells them. Standard output doesn't.
@@ -32,5 +33,6 @@ pub trait Sink {
         ensures taken { IfOk result (λ count. taken self.new ≡ option_map (λ before. before ++ take count piece.now) (taken self.old)) }
         ensures refused { OnErr result (taken self.new ≡ taken self.old) }
         ensures failed { IsErrOf result SinkErr.Failed → HasRisen (faults self.old) (faults self.new) }
-        ensures counted { faults self.old ≤ faults self.new };
+        ensures counted { faults self.old ≤ faults self.new }
+        ensures steady { ¬ IsErrOf result SinkErr.Failed → faults self.new ≡ faults self.old };
 }

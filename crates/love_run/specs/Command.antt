@@ -17,6 +17,11 @@ pub record IsFolderWord (word : List ℕ) : Type 0 where
   pub some : word ≢ []
   pub no_option : BeginsPlainly word ⊎ (word ≡ dash ∷ [])
 
+-- the folder that the words name: the first one
+abbrev pub folder_named : List (List ℕ) → List ℕ
+folder_named [] = []
+folder_named (word ∷ words) = word
+
 -- the words are those of the command: one word, which names a folder
 abbrev pub IsCommand : List (List ℕ) → Type 0
 IsCommand words = (word : List ℕ) × (words ≡ word ∷ []) × IsFolderWord word

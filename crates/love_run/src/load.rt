@@ -67,12 +67,12 @@ pub fn load<F: Folder>(
     folder: &mut F,
 ) -> Result<Vec<Statement>, LoadFault>
     ensures program { IfOk result (λ statements.
-        IfSome (F.files folder.old) (λ files. HasProgram files statements.items)) }
+        IfSome (F.files folder.old at.now) (λ files. HasProgram files statements.items)) }
     ensures few { IfOk result (λ statements. length statements.items < entry_limit) }
-    ensures no_main { IsErrOf result LoadFault.NoMain → IfSome (F.files folder.old) HasNoMain }
-    ensures out_of_form { IsErrOf result LoadFault.OutOfForm → IfSome (F.files folder.old) HasOtherForm }
+    ensures no_main { IsErrOf result LoadFault.NoMain → IfSome (F.files folder.old at.now) HasNoMain }
+    ensures out_of_form { IsErrOf result LoadFault.OutOfForm → IfSome (F.files folder.old at.now) HasOtherForm }
     ensures failed { IsErrOf result LoadFault.Folder → HasRisen (F.faults folder.old) (F.faults folder.new) }
-    ensures counted { F.faults folder.old ≤ F.faults folder.new }
+    ensures told { F.faults folder.old < F.faults folder.new → IsErrOf result LoadFault.Folder }
     ensures called { F.calls folder.new ≤ F.calls folder.old + 2 }
     ensures kept { F.files folder.new ≡ F.files folder.old }
 {

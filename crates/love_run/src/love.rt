@@ -4,7 +4,7 @@ ghost use Rattle.love_base.specs.Fault.{HasRisen};
 ghost use Rattle.love_base.specs.Prefix.{IsPrefix};
 ghost use Rattle.channel_core.specs.History.{front};
 ghost use Rattle.channel_core.specs.Lawful.{entry_limit};
-ghost use Rattle.love_run.specs.Command.{IsCommand};
+ghost use Rattle.love_run.specs.Command.{folder_named, IsCommand};
 ghost use Rattle.love_run.specs.Outcome.{end_status, HasNoMain, HasOtherForm, HasProgram, IsStatus, RanInPart, RanNothing, RanWhole, SaysNothingRan, SaysRanWhole};
 ghost use Rattle.love_run.specs.Run.{history, popped, pushed};
 ghost use Rattle.love_run.specs.declared.statement.Statement.{Statement};
@@ -33,20 +33,23 @@ pub fn love<F: Folder, S: Sink>(
     // What each status says.
     ensures status { IsStatus result.status }
     ensures usage { (result.status ≡ USAGE) ↔ ¬ IsCommand words.now }
-    ensures no_main { result.status ≡ NO_MAIN → IfSome (F.files folder.old) HasNoMain }
+    ensures no_main { result.status ≡ NO_MAIN → IfSome (F.files folder.old (folder_named words.now)) HasNoMain }
     ensures folder_fault { result.status ≡ UNREADABLE
         → HasRisen (F.faults folder.old) (F.faults folder.new) }
+    ensures folder_fault_told { F.faults folder.old < F.faults folder.new → result.status ≡ UNREADABLE }
     ensures output_fault { result.status ≡ UNWRITTEN
         → HasRisen (S.faults sink.old) (S.faults sink.new) }
-    ensures out_of_form { result.status ≡ OUT_OF_FORM → IfSome (F.files folder.old) HasOtherForm }
+    ensures output_fault_told { S.faults sink.old < S.faults sink.new
+        → (result.status ≡ UNWRITTEN) ⊎ (result.status ≡ OUT_OF_MEMORY) }
+    ensures out_of_form { result.status ≡ OUT_OF_FORM → IfSome (F.files folder.old (folder_named words.now)) HasOtherForm }
 
     // What was printed, and what became of the Channel.
     ensures ran_whole { SaysRanWhole result.status
-        → IfSome (F.files folder.old) (λ files.
+        → IfSome (F.files folder.old (folder_named words.now)) (λ files.
         (program : List Statement) × HasProgram files program
         × RanWhole program result.out result.channels) }
     ensures ran_in_part { result.status ≡ OUT_OF_MEMORY
-        → IfSome (F.files folder.old) (λ files. RanNothing result.out result.channels
+        → IfSome (F.files folder.old (folder_named words.now)) (λ files. RanNothing result.out result.channels
         ⊎ ((program : List Statement) × HasProgram files program
         × RanInPart program result.out result.channels)) }
     ensures ran_nothing { SaysNothingRan result.status → RanNothing result.out result.channels }
@@ -62,7 +65,7 @@ pub fn love<F: Folder, S: Sink>(
     ensures complete { IsCommand words.now
         → ¬ HasRisen (F.faults folder.old) (F.faults folder.new)
         → ¬ HasRisen (S.faults sink.old) (S.faults sink.new)
-        → IfSome (F.files folder.old) (λ files.
+        → IfSome (F.files folder.old (folder_named words.now)) (λ files.
         (program : List Statement) → HasProgram files program
         → (result.status ≡ DONE) ⊎ (result.status ≡ OUT_OF_MEMORY)) }
 
@@ -90,6 +93,8 @@ fn play<S: Sink>(alloc: Global, program: &[Statement], sink: &mut S) -> Report
     requires { length program.now < entry_limit }
     ensures status { (result.status ≡ DONE) ⊎ (result.status ≡ UNWRITTEN) ⊎ (result.status ≡ OUT_OF_MEMORY) }
     ensures failed { result.status ≡ UNWRITTEN → HasRisen (S.faults sink.old) (S.faults sink.new) }
+    ensures told { S.faults sink.old < S.faults sink.new
+        → (result.status ≡ UNWRITTEN) ⊎ (result.status ≡ OUT_OF_MEMORY) }
     ensures ran_whole { SaysRanWhole result.status → RanWhole program.now result.out result.channels }
     ensures ran_in_part { result.status ≡ OUT_OF_MEMORY
         → RanNothing result.out result.channels ⊎ RanInPart program.now result.out result.channels }

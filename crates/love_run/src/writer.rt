@@ -1,4 +1,4 @@
-ghost use Rattle.std.specs.Prelude.{◌≡◌, ◌++◌, ◌≤◌, List, ℕ, OnOk, OnErr, IsErrOf};
+ghost use Rattle.std.specs.Prelude.{◌≡◌, ◌++◌, ◌<◌, List, ℕ, OnOk, OnErr, IsErrOf};
 ghost use Rattle.std.specs.Option.{option_map};
 ghost use Rattle.love_base.specs.Fault.{HasRisen};
 ghost use Rattle.love_base.specs.Prefix.{IsPrefix};
@@ -15,7 +15,7 @@ pub fn write_all<S: Sink>(sink: &mut S, out: &[u8]) -> Result<(), SinkErr>
     ensures part { OnErr result ((sent : List ℕ) × IsPrefix sent out.now
         × (S.taken sink.new ≡ option_map (λ before. before ++ sent) (S.taken sink.old))) }
     ensures failed { IsErrOf result SinkErr.Failed → HasRisen (S.faults sink.old) (S.faults sink.new) }
-    ensures counted { S.faults sink.old ≤ S.faults sink.new }
+    ensures told { S.faults sink.old < S.faults sink.new → IsErrOf result SinkErr.Failed }
 {
     let mut written = 0;
     while written < out.len() {

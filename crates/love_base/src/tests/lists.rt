@@ -19,12 +19,12 @@ fn reversed<T: Clone + Drop>(alloc: Global, items: &List<T>) -> Result<List<T>, 
 #[test]
 fn a_list_grows_at_its_end(rt: HostRuntime) -> Result<(), Fail> {
     let mut list = List::new(rt.alloc());
-    assert_eq!(rt; list.len(), 0);
+    assert!(rt; list.len() == 0 && list.is_empty());
     assert!(rt; list.get(0).is_none());
     for number in [7u32, 8, 9] {
         assert!(rt; list.push(number).is_ok());
     }
-    assert_eq!(rt; list.len(), 3);
+    assert!(rt; list.len() == 3 && !list.is_empty());
     assert_eq!(rt; list.as_slice(), [7u32, 8, 9].as_slice());
     for (place, number) in [(0, Some(7)), (2, Some(9)), (3, None), (usize::MAX, None)] {
         assert_eq!(rt; list.get(place).copied(), number, "at {place}");

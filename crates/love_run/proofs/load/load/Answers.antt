@@ -1,3 +1,4 @@
+use Rattle.std.proofs.Common.{ap}
 use Rattle.love_run.proofs.Loading.{main_missing, main_there}
 use Rattle.love_run.proofs.load.load.Goals as goal
 
@@ -7,4 +8,4 @@ returns-then-not-contains-clause-no_main g c _ =
 
 pub read-requires : goal.read-requires
 read-requires g c =
-    main_there _ _ _ _ _ c.in_ok-names.ensures.kept c.in_ok-names.ensures.told (rw (← c.deref.ensures.value) c.contains.ensures.value) c.if-not-contains.false
+    main_there _ _ _ _ _ (ap (λ told. told c.args.at.now) c.in_ok-names.ensures.kept) c.in_ok-names.ensures.told (rw (← c.deref.ensures.value) c.contains.ensures.value) c.if-not-contains.false

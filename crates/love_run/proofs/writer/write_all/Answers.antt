@@ -1,4 +1,4 @@
-use Rattle.std.proofs.Common.{◌∙◌, ◌-◌, arith, take, drop}
+use Rattle.std.proofs.Common.{◌∙◌, ◌-◌, take, drop}
 use Rattle.std.proofs.lemmas.List.{take-append-drop}
 use Rattle.love_run.proofs.Writing.{on_err, piece_of, piece_within, piece_written}
 use Rattle.love_run.proofs.writer.write_all.Goals as goal
@@ -19,5 +19,5 @@ loop-written-preserved g c =
     record {
       within = piece.0;
       taken = piece_written _ _ _ out (take (c.min-end.result - written) (drop written out)) written count c.loop-written.invariant.taken c.in_ok-written.ensures.taken (piece_of written (c.min-end.result - written) count out piece.1);
-      counted = omega (arith, c.loop-written.invariant.counted, c.in_ok-written.ensures.counted);
+      steady = c.in_ok-written.ensures.steady (λ is. cc) ∙ c.loop-written.invariant.steady;
     }

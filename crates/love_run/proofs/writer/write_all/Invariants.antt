@@ -2,14 +2,14 @@ use Rattle.std.proofs.Common.{◌≡◌, ◌++◌, ◌-◌, ◌≤◌, length, t
 use Rattle.std.specs.Option.{option_map}
 use Rattle.love_run.proofs.writer.write_all.Given as goal
 
--- the bytes written are those taken, and the count of faults didn't fall
+-- the bytes written are those taken, and no call has failed
 abbrev pub invariant-loop-written : goal.invariant-loop-written
 invariant-loop-written g l =
     let sink = g.S.Sink in
     record {
       within : l.written ≤ length l.out;
       taken : sink.taken l.sink ≡ option_map (λ before. before ++ take l.written l.out) (sink.taken l.fn.sink);
-      counted : sink.faults l.fn.sink ≤ sink.faults l.sink;
+      steady : sink.faults l.sink ≡ sink.faults l.fn.sink;
     }
 
 abbrev pub decreases-loop-written : goal.decreases-loop-written
