@@ -14,7 +14,7 @@ use std::sync::Arc;
 /// wiki, `Data`).
 ///
 /// Shares and views stand on one copy of the bytes, in any threads, which goes with the last of them.
-#[derive(Drop)]
+#[derive(Debug, Drop)]
 pub struct Data {
     whole: Arc<Whole>,
     offset: usize,
@@ -22,7 +22,7 @@ pub struct Data {
     is_whole: bool,
 }
 
-#[derive(Drop)]
+#[derive(Debug, Drop)]
 struct Whole {
     bytes: Vec<u8>,
     name: Option<Text>,
@@ -35,7 +35,10 @@ impl Model for Data {
 
     ghost Value = { Contents };
 
-    ghost view = { λ d. record { bytes = slice_range (arc_value d.whole).bytes.items d.offset (d.offset + d.size); name = if d.is_whole then (arc_value d.whole).name else None } };
+    ghost view = { λ d. record {
+      bytes = slice_range (arc_value d.whole).bytes.items d.offset (d.offset + d.size);
+      name = if d.is_whole then (arc_value d.whole).name else None;
+    } };
 
     ghost invariant = { λ d. d.offset + d.size ≤ length (arc_value d.whole).bytes.items };
 }
@@ -110,8 +113,10 @@ impl Data {
     ///
     /// [`Memory`] where the bytes have no room for one more owner.
     pub fn view(&self, offset: usize, size: usize) -> Result<Option<Data>, Memory>
-        ensures within { IfOk result (λ view. IsSome view ↔ (offset + size ≤ length self.now.bytes)) }
-        ensures part { IfOk result (λ view. IfSome view (λ made. made ≡ part self.now offset size)) }
+        ensures within { IfOk result (λ view.
+            IsSome view ↔ (offset + size ≤ length self.now.bytes)) }
+        ensures part { IfOk result (λ view.
+            IfSome view (λ made. made ≡ part self.now offset size)) }
     {
         if offset > self.size || size > self.size - offset {
             return Ok(None);

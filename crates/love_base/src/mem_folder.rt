@@ -54,7 +54,8 @@ impl Folder for MemFolder {
         ensures told { IfOk result (λ names. names.items ≡ paths self.old.files) }
         ensures differ { IfOk result (λ names. IsDistinct (pointwise nat_eq) names.items) }
         ensures fails { IsErrOf result FolderErr.Failed ↔ IsTrue (fails_next self.old.script) }
-        ensures failed { IsErrOf result FolderErr.Failed → HasRisen self.old.script.faults self.new.script.faults }
+        ensures failed { IsErrOf result FolderErr.Failed
+            → HasRisen self.old.script.faults self.new.script.faults }
         ensures script { self.new.script ≡ after_call self.old.script }
         ensures kept { self.new.files ≡ self.old.files }
     {
@@ -66,9 +67,11 @@ impl Folder for MemFolder {
 
     fn read(&mut self, alloc: Global, _at: &Text, name: &Text) -> Result<Vec<u8>, FolderErr>
         requires { IsSome (content self.old.files name.now) }
-        ensures told { IfOk result (λ bytes. content self.old.files name.now ≡ Option.Some bytes.items) }
+        ensures told { IfOk result (λ bytes.
+            content self.old.files name.now ≡ Option.Some bytes.items) }
         ensures fails { IsErrOf result FolderErr.Failed ↔ IsTrue (fails_next self.old.script) }
-        ensures failed { IsErrOf result FolderErr.Failed → HasRisen self.old.script.faults self.new.script.faults }
+        ensures failed { IsErrOf result FolderErr.Failed
+            → HasRisen self.old.script.faults self.new.script.faults }
         ensures script { self.new.script ≡ after_call self.old.script }
         ensures kept { self.new.files ≡ self.old.files }
     {

@@ -21,7 +21,11 @@ impl Model for MemSink {
 
     ghost Value = { ScriptedSink };
 
-    ghost view = { λ sink. record { most = sink.most; script = sink.script; taken = sink.taken.items } };
+    ghost view = { λ sink. record {
+      most = sink.most;
+      script = sink.script;
+      taken = sink.taken.items;
+    } };
 
     ghost invariant = { λ sink. 0 < sink.most };
 }
@@ -61,10 +65,12 @@ impl Sink for MemSink {
         requires { 0 < length piece.now }
         ensures count { IfOk result (λ count. count ≡ min self.old.most (length piece.now)) }
         ensures some { IfOk result (λ count. 0 < count) }
-        ensures taken { IfOk result (λ count. self.new.taken ≡ self.old.taken ++ take count piece.now) }
+        ensures taken { IfOk result (λ count.
+            self.new.taken ≡ self.old.taken ++ take count piece.now) }
         ensures refused { OnErr result (self.new.taken ≡ self.old.taken) }
         ensures fails { IsErrOf result SinkErr.Failed ↔ IsTrue (fails_next self.old.script) }
-        ensures failed { IsErrOf result SinkErr.Failed → HasRisen self.old.script.faults self.new.script.faults }
+        ensures failed { IsErrOf result SinkErr.Failed
+            → HasRisen self.old.script.faults self.new.script.faults }
         ensures script { self.new.script ≡ after_call self.old.script }
         ensures most { self.new.most ≡ self.old.most }
     {

@@ -6,7 +6,7 @@ ghost use Rattle.love_base.specs.Fault.{HasRisen};
 #[derive(Clone, Copy, Debug, PartialEq, Eq)]
 pub enum SinkErr {
     /// The bytes can't be written. The sink counts it as a fault.
-    Failed,
+    Failed = 1,
     /// Want of memory.
     Memory,
 }
@@ -30,9 +30,11 @@ pub trait Sink {
         requires { 0 < length piece.now }
         ensures some { IfOk result (λ count. 0 < count) }
         ensures within { IfOk result (λ count. count ≤ length piece.now) }
-        ensures taken { IfOk result (λ count. taken self.new ≡ option_map (λ before. before ++ take count piece.now) (taken self.old)) }
+        ensures taken { IfOk result (λ count.
+            taken self.new ≡ option_map (λ before. before ++ take count piece.now) (taken self.old)) }
         ensures refused { OnErr result (taken self.new ≡ taken self.old) }
-        ensures failed { IsErrOf result SinkErr.Failed → HasRisen (faults self.old) (faults self.new) }
+        ensures failed { IsErrOf result SinkErr.Failed
+            → HasRisen (faults self.old) (faults self.new) }
         ensures counted { faults self.old ≤ faults self.new }
         ensures steady { ¬ IsErrOf result SinkErr.Failed → faults self.new ≡ faults self.old };
 }

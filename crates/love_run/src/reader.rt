@@ -27,10 +27,10 @@ const PRINT_POP: &[u8] = b"print(love.thread.getChannel(\"x\"):pop())";
 
 const CLOSE: &[u8] = b")";
 
-/// Why a source isn't read.
+// Why a source isn't read.
 #[derive(Clone, Copy, Debug, PartialEq, Eq)]
-pub enum ReadFault {
-    /// It is too long, or one of its lines has none of the forms that are read.
+pub(crate) enum ReadFault {
+    // It is too long, or one of its lines has none of the forms that are read.
     OutOfForm,
     Memory,
 }
@@ -56,7 +56,7 @@ impl<T: Drop> From<AllocFailed<T>> for ReadFault {
 }
 
 // The statements of a source, one a line.
-pub fn read_program(alloc: Global, source: &[u8]) -> Result<Vec<Statement>, ReadFault>
+pub(crate) fn read_program(alloc: Global, source: &[u8]) -> Result<Vec<Statement>, ReadFault>
     ensures program { IfOk result (λ statements. IsProgram source.now statements.items) }
     ensures few { IfOk result (λ statements. length statements.items < entry_limit) }
     ensures out_of_form { IsErrOf result ReadFault.OutOfForm → ¬ HasForm source.now }

@@ -9,7 +9,7 @@ use love_base::{Sink, SinkErr};
 const PIECE: usize = 4096;
 
 // Writes all of `out`, in pieces of the next 4,096 bytes that aren't taken yet, or of all that are left.
-pub fn write_all<S: Sink>(sink: &mut S, out: &[u8]) -> Result<(), SinkErr>
+pub(crate) fn write_all<S: Sink>(sink: &mut S, out: &[u8]) -> Result<(), SinkErr>
     ensures all { OnOk result
         (S.taken sink.new ≡ option_map (λ before. before ++ out.now) (S.taken sink.old)) }
     ensures part { OnErr result ((sent : List ℕ) × IsPrefix sent out.now

@@ -8,7 +8,8 @@ use std::test::Fail;
 
 /// Two files, one of them empty.
 fn game(alloc: Global) -> Result<Vec<(Text, Vec<u8>)>, Memory>
-    ensures { IfOk result (λ files. stored files.items ≡ (codes "main.lua", codes "return") ∷ (codes "a/b.lua", []) ∷ []) }
+    ensures { IfOk result (λ files.
+        stored files.items ≡ (codes "main.lua", codes "return") ∷ (codes "a/b.lua", []) ∷ []) }
 {
     let mut files = Vec::new(alloc);
     let main = Vec::from_slice(alloc, b"return")?;
@@ -27,8 +28,8 @@ struct Answers {
 }
 
 fn asked<F: Folder>(alloc: Global, folder: &mut F, at: &Text, one: &Text, other: &Text) -> Answers
-    requires one { ForSome (F.files folder.old) (λ files. IsSome (content files one.now)) }
-    requires other { ForSome (F.files folder.old) (λ files. IsSome (content files other.now)) }
+    requires one { ForSome (F.files folder.old at.now) (λ files. IsSome (content files one.now)) }
+    requires other { ForSome (F.files folder.old at.now) (λ files. IsSome (content files other.now)) }
 {
     let first = folder.list(alloc, at);
     let one = folder.read(alloc, at, one);
