@@ -21,9 +21,10 @@ RT
     chmod +x mock/tools/rt
 }
 
-# Runs the script of that repository, which is to have built so often by now and to end with this status.
+# Runs the script of that repository, which is to build so often and to end with this status.
 mock() { # NAME BUILDS STATUS OUTPUT ERROR-PATTERN
     local builds
+    : >mock/calls
     run env "PATH=$room/mock/tools:/usr/bin:/bin" "$room/mock/bin/love_run" a 'b c' --
     builds=$(wc -l <mock/calls)
     # shellcheck disable=SC2053 # the last is a pattern
@@ -38,40 +39,38 @@ check_building() {
     local built='bin/love_run: proving and building the program: *' told='3: a b c --' broke
     local log=$room/mock/crates/love_run/out/build.log source
     make_mock
-    : >mock/calls
     broke="*"$'\n'"bin/love_run: the program wasn't built: $log says why"
     mock 'which builds where there is no program' 1 7 "$told" "$built"
-    mock 'which builds only once' 1 7 "$told" ''
+    mock 'which builds only once' 0 7 "$told" ''
     touch mock/crates/other/src/lib.rt
-    mock 'where a crate changed that it has no part of' 1 7 "$told" ''
-    local builds=1
+    mock 'where a crate changed that it has no part of' 0 7 "$told" ''
     for source in low/src/lib.rt love_run/src/main.rt love_run/specs/Lib.antt love_run/proofs/Lib.antt ../crates.txt; do
         sleep 0.02
         touch "mock/crates/$source"
-        builds=$((builds + 1))
-        mock "which builds after a change of $source" "$builds" 7 "$told" "$built"
+        mock "which builds after a change of $source" 1 7 "$told" "$built"
     done
     sleep 0.02
     rm mock/crates/love_run/specs/Lib.antt
-    mock 'which builds where a source was removed' 7 7 "$told" "$built"
+    mock 'which builds where a source was removed' 1 7 "$told" "$built"
     sleep 0.02
     touch mock/crates/low/src/lib.rt mock/broken
-    mock 'where the build fails' 8 125 '' "$broke"
-    mock 'where it fails again' 9 125 '' "$broke"
+    mock 'where the build fails' 1 125 '' "$broke"
+    mock 'where it fails again' 1 125 '' "$broke"
     rm mock/broken mock/crates/love_run/out/love_run
     at_once
     rm mock/crates/love_run/out/love_run mock/tools/rt
-    mock 'where there is no toolchain' 10 125 '' "*rt, the toolchain's command, isn't on PATH"
+    mock 'where there is no toolchain' 0 125 '' "*rt, the toolchain's command, isn't on PATH"
 }
 
 # Two calls that find no program: one of them builds, and both become it.
 at_once() {
     local first=0 second=0 job
+    : >mock/calls
     env "PATH=$room/mock/tools:/usr/bin:/bin" mock/bin/love_run first >first.out 2>/dev/null </dev/null &
     job=$!
     env "PATH=$room/mock/tools:/usr/bin:/bin" mock/bin/love_run second >second.out 2>/dev/null </dev/null || second=$?
     wait "$job" || first=$?
-    if [[ "$first $second $(wc -l <mock/calls) $(cat first.out second.out)" == "7 7 10 1: first"$'\n'"1: second" ]]; then
+    if [[ "$first $second $(wc -l <mock/calls) $(cat first.out second.out)" == "7 7 1 1: first"$'\n'"1: second" ]]; then
         note ok 'bin/love_run, twice at once'
     else
         note FAILED 'bin/love_run, twice at once' "statuses $first and $second, $(wc -l <mock/calls) builds"
