@@ -14,6 +14,7 @@ make_mock() {
 echo "$PWD: $*" >>../../calls
 echo 'what rt has to say'
 ! test -e ../../broken || exit 1
+! test -e ../../idle || exit 0
 sleep 0.2
 printf '#!/bin/sh\necho "$#: $*"\nexit 7\n' >out/love_run
 chmod +x out/love_run
@@ -57,6 +58,10 @@ check_building() {
     mock 'where the build fails' 1 125 '' "$broke"
     mock 'where it fails again' 1 125 '' "$broke"
     rm mock/broken mock/crates/love_run/out/love_run
+    touch mock/idle
+    mock 'where the build ends well and makes no program' 1 125 '' "$broke"
+    mock 'where it does so again' 1 125 '' "$broke"
+    rm mock/idle
     at_once
     rm mock/crates/love_run/out/love_run mock/tools/rt
     mock 'where there is no toolchain' 0 125 '' "*rt, the toolchain's command, isn't on PATH"
