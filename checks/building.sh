@@ -4,6 +4,7 @@
 
 # A repository whose crates are empty, and a command rt that writes down its calls.
 make_mock() {
+    local tool
     mkdir -p mock/bin mock/tools mock/crates/{low,love_run,other}/src mock/crates/love_run/{specs,proofs,data/game}
     cp "$top/bin/love_run" mock/bin/
     printf '# a comment: of this\nlow:\nother: low\nlove_run: low itoa # and more\n' >mock/crates.txt
@@ -20,13 +21,18 @@ printf '#!/bin/sh\necho "$#: $*"\nexit 7\n' >out/love_run
 chmod +x out/love_run
 RT
     chmod +x mock/tools/rt
+    # What the script needs besides flock, to look whether the program is up to date.
+    mkdir mock/few
+    for tool in bash dirname find mkdir readlink sed; do
+        ln -s "$(command -v "$tool")" mock/few/
+    done
 }
 
-# Runs the script of that repository, which is to build so often and to end with this status.
+# Runs the script of that repository with the tools in `path`. It is to build so often and to end with this status.
 mock() { # NAME BUILDS STATUS OUTPUT ERROR-PATTERN
     local builds
     : >mock/calls
-    run env "PATH=$room/mock/tools:/usr/bin:/bin" "$room/mock/bin/love_run" a 'b c' --
+    run env "PATH=$path" "$room/mock/bin/love_run" a 'b c' --
     builds=$(wc -l <mock/calls)
     # shellcheck disable=SC2053 # the last is a pattern
     if [[ $ended == "$3" && $builds == "$2" && $(cat "$room/out") == "$4" && $(cat "$room/err") == $5 ]]; then
@@ -38,7 +44,8 @@ mock() { # NAME BUILDS STATUS OUTPUT ERROR-PATTERN
 
 check_building() {
     local built='bin/love_run: proving and building the program: *' told='3: a b c --' broke
-    local log=$room/mock/crates/love_run/out/build.log source
+    local log=$room/mock/crates/love_run/out/build.log path=$room/mock/tools:/usr/bin:/bin source
+    local cannot="bin/love_run: the program isn't up to date, and can't be built:"
     make_mock
     broke="*"$'\n'"bin/love_run: the program wasn't built: $log says why"
     mock 'which builds where there is no program' 1 7 "$told" "$built"
@@ -63,17 +70,19 @@ check_building() {
     mock 'where it does so again' 1 125 '' "$broke"
     rm mock/idle
     at_once
-    rm mock/crates/love_run/out/love_run mock/tools/rt
-    mock 'where there is no toolchain' 0 125 '' "*rt, the toolchain's command, isn't on PATH"
+    rm mock/crates/love_run/out/love_run
+    path=$room/mock/tools:$room/mock/few mock 'where there is no flock' 0 125 '' "$cannot flock isn't on PATH"
+    rm mock/tools/rt
+    mock 'where there is no toolchain' 0 125 '' "$cannot rt, the toolchain's command, isn't on PATH"
 }
 
 # Two calls that find no program: one of them builds, and both become it.
 at_once() {
     local first=0 second=0 job
     : >mock/calls
-    env "PATH=$room/mock/tools:/usr/bin:/bin" mock/bin/love_run first >first.out 2>/dev/null </dev/null &
+    env "PATH=$path" mock/bin/love_run first >first.out 2>/dev/null </dev/null &
     job=$!
-    env "PATH=$room/mock/tools:/usr/bin:/bin" mock/bin/love_run second >second.out 2>/dev/null </dev/null || second=$?
+    env "PATH=$path" mock/bin/love_run second >second.out 2>/dev/null </dev/null || second=$?
     wait "$job" || first=$?
     if [[ "$first $second $(wc -l <mock/calls) $(cat first.out second.out)" == "7 7 1 1: first"$'\n'"1: second" ]]; then
         note ok 'bin/love_run, twice at once'
