@@ -57,6 +57,13 @@ check_building() {
         touch "mock/crates/$source"
         mock "which builds after a change of $source" 1 7 "$told" "$built"
     done
+    # The last line, that of love_run, is read also where no newline ends it.
+    sleep 0.02
+    truncate -s -1 mock/crates.txt
+    mock 'which builds after a change of the end of crates.txt' 1 7 "$told" "$built"
+    sleep 0.02
+    touch mock/crates/low/src/lib.rt
+    mock 'which builds where no newline ends crates.txt' 1 7 "$told" "$built"
     sleep 0.02
     rm mock/crates/love_run/specs/Lib.antt
     mock 'which builds where a source was removed' 1 7 "$told" "$built"
