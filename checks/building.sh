@@ -14,6 +14,7 @@ make_mock() {
 # Stands in for the toolchain: `rt run` in the crate makes a program that tells its words.
 echo "$PWD: $*" >>../../calls
 echo 'what rt has to say'
+test -z "${RT_BACKEND-}" || exit 2
 ! test -e ../../broken || exit 1
 ! test -e ../../idle || exit 0
 sleep 0.2
@@ -32,7 +33,7 @@ RT
 mock() { # NAME BUILDS STATUS OUTPUT ERROR-PATTERN
     local builds
     : >mock/calls
-    run env "PATH=$path" "$room/mock/bin/love_run" a 'b c' --
+    run env RT_BACKEND=both "PATH=$path" "$room/mock/bin/love_run" a 'b c' --
     builds=$(wc -l <mock/calls)
     # shellcheck disable=SC2053 # the last is a pattern
     if [[ $ended == "$3" && $builds == "$2" && $(cat "$room/out") == "$4" && $(cat "$room/err") == $5 ]]; then
