@@ -7,7 +7,7 @@ make_mock() {
     local tool
     mkdir -p mock/bin mock/tools mock/crates/{low,love_run,other}/src mock/crates/love_run/{specs,proofs,data/game}
     cp "$top/bin/love_run" mock/bin/
-    printf '# a comment: of this\nlow:\nother: low\nlove_run: low itoa # and more\n' >mock/crates.txt
+    printf '# a comment: of this\nlow:\nother: low\n \tlove_run opt_level=2 : itoa, low,thiserror # and more\n' >mock/crates.txt
     touch mock/crates/{low,other}/src/lib.rt mock/crates/love_run/{src/main.rt,specs/Lib.antt,proofs/Lib.antt}
     cat >mock/tools/rt <<'RT'
 #!/bin/sh
@@ -72,13 +72,13 @@ check_building() {
     touch mock/crates/low/src/lib.rt mock/broken
     mock 'where the build fails' 1 125 '' "$broke"
     mock 'where it fails again' 1 125 '' "$broke"
-    rm mock/broken mock/crates/love_run/out/love_run
+    rm -f mock/broken mock/crates/love_run/out/love_run
     touch mock/idle
     mock 'where the build ends well and makes no program' 1 125 '' "$broke"
     mock 'where it does so again' 1 125 '' "$broke"
     rm mock/idle
     at_once
-    rm mock/crates/love_run/out/love_run
+    rm -f mock/crates/love_run/out/love_run
     path=$room/mock/tools:$room/mock/few mock 'where there is no flock' 0 125 '' "$cannot flock isn't on PATH"
     rm mock/tools/rt
     mock 'where there is no toolchain' 0 125 '' "$cannot rt, the toolchain's command, isn't on PATH"
