@@ -68,6 +68,10 @@ check_building() {
     sleep 0.02
     rm mock/crates/love_run/specs/Lib.antt
     mock 'which builds where a source was removed' 1 7 "$told" "$built"
+    mv mock/crates.txt mock/crates
+    mock 'which builds where crates.txt is gone' 1 7 "$told" "$built"
+    mv mock/crates/crates.txt mock
+    mock 'which builds nothing once it is there again' 0 7 "$told" ''
     sleep 0.02
     touch mock/crates/low/src/lib.rt mock/broken
     mock 'where the build fails' 1 125 '' "$broke"
