@@ -45,7 +45,8 @@ mock() { # NAME BUILDS STATUS OUTPUT ERROR-PATTERN
 
 check_building() {
     local built='bin/love_run: proving and building the program: *' told='3: a b c --' broke
-    local log=$room/mock/crates/love_run/out/build.log path=$room/mock/tools:/usr/bin:/bin source
+    local path=$room/mock/tools:/usr/bin:/bin source
+    local log=$room/mock/crates/love_run/out/build.log lock=$room/mock/crates/love_run/out/build.lock
     local cannot="bin/love_run: the program isn't up to date, and can't be built:"
     make_mock
     broke="*"$'\n'"bin/love_run: the program wasn't built: $log says why"
@@ -84,6 +85,9 @@ check_building() {
     at_once
     rm -f mock/crates/love_run/out/love_run
     path=$room/mock/tools:$room/mock/few mock 'where there is no flock' 0 125 '' "$cannot flock isn't on PATH"
+    printf '#!/bin/sh\nexit 1\n' >mock/few/flock
+    chmod +x mock/few/flock
+    path=$room/mock/tools:$room/mock/few mock 'where nothing can be locked' 0 125 '' "*"$'\n'"$cannot $lock can't be locked"
     rm mock/tools/rt
     mock 'where there is no toolchain' 0 125 '' "$cannot rt, the toolchain's command, isn't on PATH"
 }
