@@ -83,7 +83,10 @@ check_building() {
     mock 'where it does so again' 1 125 '' "$broke"
     rm mock/idle
     at_once
-    rm -f mock/crates/love_run/out/love_run
+    rm -f mock/crates/love_run/out/love_run "$log"
+    mkdir "$log"
+    mock "where the log can't be written" 0 125 '' "$cannot $room/mock/crates/love_run/out can't be written"
+    rmdir "$log"
     path=$room/mock/tools:$room/mock/few mock 'where there is no flock' 0 125 '' "$cannot flock isn't on PATH"
     printf '#!/bin/sh\nexit 1\n' >mock/few/flock
     chmod +x mock/few/flock
