@@ -15,11 +15,13 @@ declare -A said=(
 
 passed=0
 failed=0
+skipped=0
 
 note() { # RESULT NAME [WHY]
     case $1 in
         ok) passed=$((passed + 1)) ;;
         FAILED) failed=$((failed + 1)) ;;
+        skipped) skipped=$((skipped + 1)) ;;
     esac
     printf '%-8s %s%s\n' "$1" "$2" "${3:+: $3}"
 }
