@@ -22,7 +22,7 @@ choose_folder() { # [FOLDER]
     else
         mkdir -p -- "$1"
         folder=$(readlink -f -- "$1")
-        # What is laid takes the place of what is there, which may be nobody's own work.
+        # What is laid takes the place of all crates there, so a folder with anything else, as this repository, is refused.
         [[ -e $folder/laid || -z $(ls -A -- "$folder") ]] || complain 64 "$folder holds what no benchmark laid there"
     fi
     : >"$folder/laid"
