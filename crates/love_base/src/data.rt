@@ -13,7 +13,8 @@ use std::sync::Arc;
 /// Bytes that never change, with the name of the file that they came from, where there is one (LÖVE
 /// wiki, `Data`).
 ///
-/// Shares and views stand on one copy of the bytes, in any threads, which goes with the last of them.
+/// Shares and views stand on one copy of the bytes, in any threads, which goes with the last of
+/// them.
 #[derive(Debug, Drop)]
 pub struct Data {
     whole: Arc<Whole>,
@@ -106,8 +107,8 @@ impl Data {
         })
     }
 
-    /// The `size` bytes from `offset` on, counted from 0, as Data without a name on the same bytes, in
-    /// constant time (LÖVE wiki, `love.data.newDataView`); `None` where they don't lie within.
+    /// The `size` bytes from `offset` on, counted from 0, as Data without a name on the same bytes,
+    /// in constant time (LÖVE wiki, `love.data.newDataView`); `None` where they don't lie within.
     ///
     /// # Errors
     ///

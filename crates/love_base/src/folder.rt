@@ -67,12 +67,12 @@ impl From<io::Error> for FolderErr {
 
 /// A folder of files, as a game is one.
 pub trait Folder {
-    /// How many calls have failed so far: only a failure raises it. A count that reaches the end of its
-    /// type stays there.
+    /// How many calls have failed so far: only a failure raises it. A count that reaches the end of
+    /// its type stays there.
     ghost faults: { Self → ℕ };
 
-    /// The files below a folder, by its path, where the folder tells them. Those of the real file system
-    /// don't.
+    /// The files below a folder, by its path, where the folder tells them. Those of the real file
+    /// system don't.
     ghost files: { Self → List ℕ → Option (List File) };
 
     /// How many calls were made, as far as the folder counts them.
@@ -82,8 +82,8 @@ pub trait Folder {
     ///
     /// # Errors
     ///
-    /// [`FolderErr::Failed`] where the folder can't be read, [`FolderErr::Memory`] where there is no
-    /// room for the paths.
+    /// [`FolderErr::Failed`] where the folder can't be read, [`FolderErr::Memory`] where there is
+    /// no room for the paths.
     fn list(&mut self, alloc: Global, at: &Text) -> Result<Vec<Text>, FolderErr>
         ensures told { IfOk result (λ names.
             IfSome (files self.old at.now) (λ files. names.items ≡ paths files)) }
@@ -99,12 +99,13 @@ pub trait Folder {
     ///
     /// # Errors
     ///
-    /// [`FolderErr::Failed`] where the file can't be read, [`FolderErr::Memory`] where there is no room
-    /// for its bytes.
+    /// [`FolderErr::Failed`] where the file can't be read, [`FolderErr::Memory`] where there is no
+    /// room for its bytes.
     fn read(&mut self, alloc: Global, at: &Text, name: &Text) -> Result<Vec<u8>, FolderErr>
         requires { ForSome (files self.old at.now) (λ files. IsSome (content files name.now)) }
         ensures told { IfOk result (λ bytes.
-            IfSome (files self.old at.now) (λ files. content files name.now ≡ Option.Some bytes.items)) }
+            IfSome (files self.old at.now) (λ files.
+            content files name.now ≡ Option.Some bytes.items)) }
         ensures failed { IsErrOf result FolderErr.Failed
             → HasRisen (faults self.old) (faults self.new) }
         ensures counted { faults self.old ≤ faults self.new }

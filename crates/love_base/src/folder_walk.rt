@@ -50,8 +50,9 @@ struct Unopened {
     depth: u8,
 }
 
-// The paths of the files below `root`. The folder found last is opened first, so that a nesting without end,
-// as a link to a folder above itself makes one, is met in few steps; and nothing of it is on the stack.
+// The paths of the files below `root`. The folder found last is opened first, so that a nesting
+// without end, as a link to a folder above itself makes one, is met in few steps; and nothing of it
+// is on the stack.
 fn walk<R: Files + AllocGlobal + Clone + Drop>(
     rt: &R,
     alloc: Global,
@@ -112,8 +113,8 @@ enum Kind {
     Neither,
 }
 
-// What an entry, or what the link that it is leads to, is. A link that leads nowhere, through a file or in
-// a circle is neither a file nor a folder.
+// What an entry, or what the link that it is leads to, is. A link that leads nowhere, through a
+// file or in a circle is neither a file nor a folder.
 fn kind_of<R: Files + AllocGlobal + Clone + Drop>(
     rt: &R,
     entry: &DirEntry<R, Global>,

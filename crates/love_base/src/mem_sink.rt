@@ -31,8 +31,8 @@ impl Model for MemSink {
 }
 
 impl MemSink {
-    /// A sink that takes at most `most` bytes a call. The calls whose numbers, counted from 1, stand in
-    /// `fails` answer [`SinkErr::Failed`]. It takes no memory until bytes are written.
+    /// A sink that takes at most `most` bytes a call. The calls whose numbers, counted from 1,
+    /// stand in `fails` answer [`SinkErr::Failed`]. It takes no memory until bytes are written.
     pub fn new(alloc: Global, most: usize, fails: Vec<u64>) -> MemSink
         requires { 0 < most }
         ensures most { result.most ≡ most }
@@ -59,8 +59,8 @@ impl Sink for MemSink {
 
     ghost taken = { λ sink. Option.Some sink.taken };
 
-    /// A write for which there is no room answers [`SinkErr::Memory`], takes nothing, and is no fault.
-    /// The bytes taken are copied.
+    /// A write for which there is no room answers [`SinkErr::Memory`], takes nothing, and is no
+    /// fault. The bytes taken are copied.
     fn write(&mut self, piece: &[u8]) -> Result<usize, SinkErr>
         requires { 0 < length piece.now }
         ensures count { IfOk result (λ count. count ≡ min self.old.most (length piece.now)) }

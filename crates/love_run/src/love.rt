@@ -22,7 +22,8 @@ use std::alloc::Global;
 
 /// Reads a game, runs it and writes what it prints: all that the program does.
 ///
-/// `words` are those after the program's name. The report's status is 0 or one of [`crate::status`].
+/// `words` are those after the program's name. The report's status is 0 or one of
+/// [`crate::status`].
 #[tactic(auto, using(crate::proofs::Order::popped_first, crate::proofs::Order::drained))]
 pub fn love<F: Folder, S: Sink>(
     alloc: Global,
@@ -75,8 +76,8 @@ pub fn love<F: Folder, S: Sink>(
         (program : List Statement) → HasProgram files program
         → (result.status ≡ DONE) ⊎ (result.status ≡ OUT_OF_MEMORY)) }
 
-    // Of any program: it pops the first messages that it pushed, in that order; and a pop gives `nil`
-    // exactly where all that were pushed before it were popped.
+    // Of any program: it pops the first messages that it pushed, in that order; and a pop gives
+    // `nil` exactly where all that were pushed before it were popped.
     ensures first_in_first_out { (program : List Statement)
         → IsPrefix (popped program) (pushed program) }
     ensures nil_where_drained { (before : List Statement)

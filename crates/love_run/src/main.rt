@@ -1,7 +1,7 @@
 //! `love_run FOLDER`: runs the game in a folder, and prints what it prints.
 //!
-//! [`love`] does all of it; `main` takes the words, makes the real folder and output, calls it, says what
-//! its status means and ends with it.
+//! [`love`] does all of it; `main` takes the words, makes the real folder and output, calls it,
+//! says what its status means and ends with it.
 #![tactic(auto)]
 
 mod command;

@@ -13,8 +13,8 @@ use love_base::{Memory, Stamp};
 use std::alloc::Global;
 use variant::Variant;
 
-// Runs the statements in order. What they print is added to `out`, and what they do to the Channel to its
-// history; where memory runs out, a part of it.
+// Runs the statements in order. What they print is added to `out`, and what they do to the Channel
+// to its history; where memory runs out, a part of it.
 pub(crate) fn run(
     alloc: Global,
     statements: &[Statement],
