@@ -7,7 +7,7 @@ use Rattle.std.proofs.lemmas.List.Elements.{All-from_recursion}
 use Rattle.std.specs.Option.{option_map}
 use Rattle.std.proofs.lemmas.Bool.{cases_lt}
 use Rattle.std.proofs.Math.Seq.{drop-length}
-use Rattle.lua_value.specs.Numeral.{IsAnswer}
+use Rattle.lua_value.specs.Numeral.{IsNumeralAnswer}
 use Rattle.lua_value.specs.declared.numeral.NumeralFault.{NumeralFault}
 use Rattle.lua_value.specs.declared.numeral.NumeralFault.TheVariants as numeral
 use Rattle.lua_value.proofs.NumeralLaws.{Denotes-unique}
@@ -28,7 +28,7 @@ use Rattle.lua_token.specs.declared.token.Token.{Token}
 
 -- ---- numbers
 
-judged_once : (text : List ℕ) (r s : Result ℤ NumeralFault) → IsAnswer text r → IsAnswer text s → r ≡ s
+judged_once : (text : List ℕ) (r s : Result ℤ NumeralFault) → IsNumeralAnswer text r → IsNumeralAnswer text s → r ≡ s
 judged_once text (Ok y) (Ok z) p q = ap (λ v. Ok v) (Denotes-unique text y z p.0 q.0)
 judged_once text (Ok y) (Err numeral.Malformed) ((t, formed, spelled, value), num) q = absurd (q (t, formed, spelled))
 judged_once text (Ok y) (Err numeral.NotWhole) p q = absurd (q.1 y p.0 p.1)

@@ -5,7 +5,7 @@ use Rattle.std.specs.List.{AllByRecursion, prefix_len, starts_with}
 use Rattle.std.specs.Cmp.Lexicographic.{pointwise}
 use Rattle.std.proofs.lemmas.Slice.Eq.{bytes_eq-Decides}
 use Rattle.std.proofs.lemmas.List.{take_at, take-append-drop, length-take, length-drop, length-append, drop-drop}
-use Rattle.lua_value.specs.Numeral.{IsAnswer, IsNumeral}
+use Rattle.lua_value.specs.Numeral.{IsNumeralAnswer, IsNumeral}
 use Rattle.lua_value.specs.declared.numeral.NumeralFault.{NumeralFault}
 use Rattle.lua_value.specs.declared.numeral.NumeralFault.TheVariants as numeral
 use Rattle.lua_token.specs.Bytes.{is_letter, is_digit, is_of, first_is}
@@ -293,7 +293,7 @@ long_claim b text n size letter num quote opens at fits =
     (inr (n, subst (λ (t : List ℕ). level 91 t ≡ Some n) (sym whole) opens, subst (λ (t : List ℕ). LongAt n t (Some (length (take size (b ∷ text))))) (sym whole) there), long_longest b text n size letter num quote opens at)
 
 number_claim : (b : ℕ) (text : List ℕ) (kind : Kind) (n : ℕ) (judged : Result ℤ NumeralFault) → is_letter b ≡ false → starts_number (b ∷ text) ≡ true → 0 < number_length (b ∷ text)
-    → IsAnswer (take (number_length (b ∷ text)) (b ∷ text)) judged → ◌≡◌ {A = Result Step LexWhat} (Ok (Found kind n)) (number_step (number_length (b ∷ text)) judged) → Claim (b ∷ text) kind n
+    → IsNumeralAnswer (take (number_length (b ∷ text)) (b ∷ text)) judged → ◌≡◌ {A = Result Step LexWhat} (Ok (Found kind n)) (number_step (number_length (b ∷ text)) judged) → Claim (b ∷ text) kind n
 number_claim b text kind n (Ok z) letter is some answer e =
     let kind_is : kind ≡ Number z = cc in
     let n_is : n ≡ number_length (b ∷ text) = cc in

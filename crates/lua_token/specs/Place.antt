@@ -2,7 +2,7 @@
 -- written as numbers: 34 and 39 are the quotes, 45 is the dash, 91 and 93 are the brackets.
 use Rattle.std.specs.Prelude.{◌≡◌, ℕ, ◌+◌, ◌-◌, ◌<◌, ◌≤◌, ℤ, List, [], ◌∷◌, drop, take, length, Option, Some, None, Result, Ok, Err, slice_index, ◌==◌, ◌&&◌, ◌||◌, ◌⊎◌, if◌then◌else◌}
 use Rattle.std.specs.List.{prefix_len}
-use Rattle.lua_value.specs.Numeral.{IsAnswer}
+use Rattle.lua_value.specs.Numeral.{IsNumeralAnswer}
 use Rattle.lua_value.specs.declared.numeral.NumeralFault.{NumeralFault}
 use Rattle.lua_value.specs.declared.numeral.NumeralFault.TheVariants as numeral
 use Rattle.lua_token.specs.Bytes.{is_blank, is_letter, is_of, first_is}
@@ -73,7 +73,7 @@ Stands starts.Blank text found = found ≡ Ok (Skip 1)
 Stands starts.Word text found =
     let n = prefix_len (is_of InName) text in found ≡ Ok (Found (word_kind (take n text)) n)
 Stands starts.Digits text found = (judged : Result ℤ NumeralFault)
-    × IsAnswer (take (number_length text) text) judged × (found ≡ number_step (number_length text) judged)
+    × IsNumeralAnswer (take (number_length text) text) judged × (found ≡ number_step (number_length text) judged)
 Stands starts.Quote text found = (bytes : List ℕ) × (rest : List ℕ) × Characters (slice_index text 0) (drop 1 text) bytes rest
     × QuoteEnds (character_at (slice_index text 0) rest) (length text + 1 - length rest) found
 Stands starts.Comment text found =
