@@ -69,7 +69,9 @@ fn take_all<O>(mut closed: Closed<Option<O>, Global>, mut objects: Vec<O>) -> Ve
 }
 
 impl<O: Logged> Desk<O> {
-    /// Gives each object back, and the front of each pass at each object. Takes no memory.
+    /// Gives each object back, in order, and the front of each pass at each object. Takes no memory.
+    ///
+    /// All of the desk's passes are given back to it, in any order, and none of them has an object.
     pub fn close(self, passes: Vec<Pass<O>>) -> (Vec<O>, Fronts)
         requires own { All (λ p. p.desk ≡ self) passes.items }
         requires free { All (λ p. HoldsNothing p.view) passes.items }

@@ -12,7 +12,7 @@ use crate::plays::{DeskTable, Give, Publish, Said, Take, TurnSeat};
 use std::marker::{Brand, Model};
 use std::sync::Wait;
 
-/// Objects that threads take in turn.
+/// Objects that threads take in turn: 1 to 1,026, numbered from 0. Threads share the desk by reference.
 #[derive(Drop)]
 pub struct Desk<O: Logged> {
     pub(crate) table: DeskTable<O>,
@@ -35,11 +35,11 @@ impl<O: Logged> Model for Desk<O> {
 
 impl<O: Logged> Desk<O> {
     /// Takes an object, if no other pass has it, in one atomic step. Its history is neither copied nor
-    /// walked.
+    /// walked. The pass is one of this desk, and doesn't have the object.
     ///
     /// # Errors
     ///
-    /// The number of the pass that has it.
+    /// The number of the pass that had it when this one asked. The refusal is noted, and nothing else changes.
     #[tactic(auto, using(crate::proofs::Keeping::keeps_here))]
     pub fn try_hold(&self, pass: &mut Pass<O>, object: u32) -> Result<Held<O>, Busy>
         requires own { pass.old.desk ≡ self.now }
@@ -71,7 +71,9 @@ impl<O: Logged> Desk<O> {
         pass.fronts[slot] = value.length();
         Ok(Held { object, value })
     }
+
     /// Takes an object, and waits while another pass has it. Whether a wait ends is up to the other threads.
+    /// Each pass that it waits for is noted, as `try_hold` notes a refusal.
     pub fn hold<R: Wait>(&self, rt: &R, pass: &mut Pass<O>, object: u32) -> Held<O>
         requires own { pass.old.desk ≡ self.now }
         requires object { object < self.now.table.slots }
@@ -116,7 +118,11 @@ impl<O: Logged> Desk<O> {
     }
 
     /// Publishes what was changed in one atomic step, gives the object back in another, and wakes those
-    /// that wait for it. Turning to the object's slot costs as much as this pass has objects.
+    /// that wait for it, by one call of the system even where none do. Turning to the object's slot costs as
+    /// much as this pass has objects.
+    ///
+    /// The object is one that this pass has. The history that it was taken with begins its history now, its
+    /// fixed number is the same, and nobody is inside a section.
     pub fn release(&self, pass: &mut Pass<O>, held: Held<O>)
         requires own { pass.old.desk ≡ self.now }
         requires object { held.object < self.now.table.slots }

@@ -168,9 +168,14 @@ fn deal<O: Logged>(
 }
 
 impl<O: Logged> Desk<O> {
-    /// A desk of 1 to 1,026 objects and its 1 to 17 passes, numbered from 1, in order.
+    /// A desk of 1 to 1,026 objects and its 1 to 17 passes, numbered from 1, in order. The objects have empty
+    /// histories and stay in their order, and `seats` is the number of passes.
     ///
     /// Takes the room for all that the desk's other calls need.
+    ///
+    /// # Errors
+    ///
+    /// There was no memory for that. The objects are dropped then.
     pub fn new(
         alloc: Global,
         objects: Vec<O>,

@@ -2,10 +2,12 @@ use crate::logged::Logged;
 use crate::plays::TurnSeat;
 use std::marker::Model;
 
-/// The right to take turns at one desk. Each thread has its own.
+/// The right to take turns at one desk. Each thread has its own. One that is dropped can't be given back, and
+/// then the desk can't be closed.
 #[derive(Drop)]
 pub struct Pass<O: Logged> {
     pub(crate) seat: TurnSeat<O>,
+    /// From 1 to the desk's number of passes.
     pub(crate) number: u32,
     /// The greatest length of each object's history that this pass has seen.
     pub(crate) fronts: Vec<u32>,
