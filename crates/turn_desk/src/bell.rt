@@ -29,7 +29,7 @@ impl Bell {
         self.rung.notify_all();
     }
 
-    /// Waits until it rang more than `n` times.
+    /// Waits until it rang more than `n` times, at the greatest `u64` forever.
     pub fn wait_past<R: Wait>(&self, rt: &R, n: u64) {
         drop(
             self.rung

@@ -2,10 +2,13 @@ ghost use Rattle.std.specs.Prelude.{◌≡◌};
 
 use crate::logged::Logged;
 
-/// An object in the keeping of one pass, from the take until it is released.
+/// An object in the keeping of one pass, from the take until it is released. One that is dropped
+/// instead is lost: its turn never comes free again, and the desk can't be closed.
 #[derive(Drop)]
 pub struct Held<O: Logged> {
+    /// Which of the desk's objects it is, counted from 0.
     pub object: u32,
+    /// The object.
     pub value: O,
 }
 
@@ -36,7 +39,7 @@ impl<O: Logged> Held<O> {
     }
 }
 
-/// Another pass has the object.
+/// Another pass had the object when it was asked for.
 #[derive(Clone, Copy, Debug, PartialEq, Eq)]
 pub struct Busy {
     /// The number of the pass that the turn word had, from 1 to the number of passes.

@@ -3,27 +3,34 @@ ghost use Rattle.love_base.specs.declared.stamp.Stamp.{Stamp as StampValue};
 
 use love_base::Stamp;
 
-/// An object that a desk can share: it keeps the history of its own changes, and is what that history
-/// makes of it.
+/// An object that a desk can share: it keeps the history of its own changes, and is what that
+/// history makes of it.
 ///
-/// No change of such an object alters its fixed number or the entries that it had before; who changes
-/// one by a [`crate::Held`] owes that to [`crate::Desk::release`].
+/// No change of such an object alters its fixed number or the entries that it had before; who
+/// changes one by a [`crate::Held`] owes that to [`crate::Desk::release`].
 pub trait Logged: Drop {
+    /// One change of the object.
     type Entry;
 
+    /// The changes so far, the oldest first.
     ghost history: { Self → List Self.Entry };
 
+    /// What `fixed` tells.
     ghost fixed_number: { Self → ℕ };
 
+    /// The object of a fixed number and a history.
     ghost replay: { ℕ → List Self.Entry → Self };
 
+    /// What `summary` tells of an object with this history.
     ghost summed: { List Self.Entry → ℕ };
 
+    /// Whether nobody is inside a section after this history.
     ghost between: { List Self.Entry → Bool };
 
+    /// What `stamp` tells.
     ghost stamped: { Self.Entry → StampValue };
 
-    /// The number of entries, below 2^22.
+    /// The number of entries of the history, below 2^22.
     fn length(&self) -> u32
         ensures length { result ≡ length (history self.now) }
         ensures fits { result < 2 ^ 22 };
@@ -45,5 +52,6 @@ pub trait Logged: Drop {
     fn stamp(entry: &Self::Entry) -> Stamp
         ensures { result ≡ stamped entry.now };
 
+    /// An object is nothing but its fixed number and its history.
     ghost replays: { (x : Self) → replay (fixed_number x) (history x) ≡ x };
 }
