@@ -8,7 +8,8 @@ use Rattle.std.proofs.lemmas.List.{take_at, take-append-drop, length-take, lengt
 use Rattle.lua_value.specs.Numeral.{IsNumeralAnswer, IsNumeral}
 use Rattle.lua_value.specs.declared.numeral.NumeralFault.{NumeralFault}
 use Rattle.lua_value.specs.declared.numeral.NumeralFault.TheVariants as numeral
-use Rattle.lua_token.specs.Bytes.{is_letter, is_digit, is_of, first_is}
+use Rattle.std.specs.Char.{is_ascii_digit}
+use Rattle.lua_token.specs.Bytes.{is_letter, is_of, first_is}
 use Rattle.lua_token.specs.Spelling.{spelling, keywords, symbols, keyword_of, word_kind, symbol_at}
 use Rattle.lua_token.specs.Run.{starts_number, number_length}
 use Rattle.lua_token.specs.Long.{level, LongAt}
@@ -251,7 +252,7 @@ never_closing false false r v k c e = cc
 no_escape_closes : (text : List ℕ) → escape_at text ≡ Closing → ⊥
 unfolding escape_at
 no_escape_closes [] e = cc
-no_escape_closes (b ∷ text) e = never_closing (is_digit b) _ _ _ _ _ e
+no_escape_closes (b ∷ text) e = never_closing (is_ascii_digit b) _ _ _ _ _ e
 
 closing_first : (b : ℕ) (rest : List ℕ) → character_at b rest ≡ Closing → (after : List ℕ) × (rest ≡ b ∷ after)
 unfolding character_at
