@@ -15,11 +15,13 @@ declare -A said=(
 
 passed=0
 failed=0
+skipped=0
 
 note() { # RESULT NAME [WHY]
     case $1 in
         ok) passed=$((passed + 1)) ;;
         FAILED) failed=$((failed + 1)) ;;
+        skipped) skipped=$((skipped + 1)) ;;
     esac
     printf '%-8s %s%s\n' "$1" "$2" "${3:+: $3}"
 }
@@ -42,17 +44,20 @@ ended_so() { # NAME STATUS ERROR-TEXT
     return 1
 }
 
-# Runs a command that is to end with this status and the program's line for it, and print this file.
-prints() { # NAME STATUS EXPECTED-FILE COMMAND..
-    local name=$1 status=$2 expected=$3
-    shift 3
-    run "$@"
-    ended_so "$name" "$status" "${said[$status]:+${said[$status]}$'\n'}" || return 0
-    if cmp -s "$expected" "$room/out"; then
-        note ok "$name"
+# Runs a command that is to end with this status, say this text on standard error, and print this file.
+gives() { # NAME STATUS ERROR-TEXT EXPECTED-FILE COMMAND..
+    run "${@:5}"
+    ended_so "$1" "$2" "$3" || return 0
+    if cmp -s "$4" "$room/out"; then
+        note ok "$1"
     else
-        note FAILED "$name" "standard output isn't $expected"
+        note FAILED "$1" "standard output isn't $4"
     fi
+}
+
+# The same with the program's line for the status.
+prints() { # NAME STATUS EXPECTED-FILE COMMAND..
+    gives "$1" "$2" "${said[$2]:+${said[$2]}$'\n'}" "${@:3}"
 }
 
 # The same where nothing may be printed.

@@ -1,43 +1,21 @@
-#!/bin/sh
+#!/usr/bin/env bash
 # Times a table at 100,000 and at 1,000,000 keys, and fails where ten times the keys take over twelve times as long.
 #
 # Run it on a machine that does nothing else: at 1,000,000 keys a table is larger than most caches, which other work empties.
 #
-# The program is laid beside copies of the crates that it stands on, so that the repository's gate does not
-# build it. It is proved and built there, which takes some minutes the first time.
-#
 # usage: bench/table/run.sh [FOLDER]    FOLDER keeps what was built, for the next run
-set -eu
-here=$(cd "$(dirname "$0")" && pwd)
-root=$(cd "$here/../.." && pwd)
-folder=${1:-$(mktemp -d)}
+set -euo pipefail
 
-mkdir -p "$folder/crates"
-for crate in love_base lua_table; do
-    mkdir -p "$folder/crates/$crate"
-    for part in src specs proofs; do
-        rm -rf "$folder/crates/$crate/$part"
-        if [ -d "$root/crates/$crate/$part" ]; then
-            cp -R "$root/crates/$crate/$part" "$folder/crates/$crate/$part"
-        fi
-    done
-done
-mkdir -p "$folder/crates/table_bench"
-rm -rf "$folder/crates/table_bench/src"
-mkdir -p "$folder/crates/table_bench/src"
-# The gate reads no .rt file outside the crates.
-for file in key main phases; do
-    cp "$here/src/$file.rt.txt" "$folder/crates/table_bench/src/$file.rt"
-done
-cp "$root/HANDLES" "$folder/HANDLES"
-cat > "$folder/crates.txt" <<'CRATES'
-love_base:
-lua_table: love_base indexmap
-table_bench: lua_table anyhow
-CRATES
+bench=$(dirname -- "$(readlink -f -- "${BASH_SOURCE[0]}")")
+# shellcheck source=bench/lay.sh
+source "$bench/../lay.sh"
 
-cd "$folder/crates/table_bench"
-rt run -- 1 1 > "$folder/build.log" 2>&1 || { cat "$folder/build.log"; exit 1; }
+choose_folder "$@"
+lay 'table_bench: lua_table anyhow' love_base lua_table
+rt run -- 1 1 >"$folder/build.log" 2>&1 || {
+    cat "$folder/build.log"
+    exit 1
+}
 
 few=$(./out/table_bench 100000 20)
 many=$(./out/table_bench 1000000 10)

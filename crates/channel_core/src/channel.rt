@@ -8,10 +8,11 @@ use std::alloc::Global;
 use std::marker::Model;
 use variant::Variant;
 
-/// The number of entries from which on a history takes no further message and gives none. It is this project's own.
+// The number of entries from which on a history takes no further message and gives none. It is this
+// project's own.
 const ENTRY_LIMIT: usize = 2_000_000;
 
-/// The message of the entry at this place of a history, counted from 0, if it sends one.
+// The message of the entry at this place of a history, counted from 0, if it sends one.
 fn message_at(history: &[Entry], place: u32) -> Option<&Variant>
     ensures { option_copied result ≡ message_at history.now place }
 {
@@ -19,17 +20,18 @@ fn message_at(history: &[Entry], place: u32) -> Option<&Variant>
     entry.what.message()
 }
 
-/// The place of the message after the first `taken` ones.
+// The place of the message after the first `taken` ones.
 fn place_of(puts: &[u32], taken: u32) -> Option<u32>
     ensures { result ≡ slice_get puts.now taken }
 {
     puts.get(taken as usize).copied()
 }
 
-/// A queue of messages between states, and the history of all that was done to it (LÖVE wiki, `Channel`).
+/// A queue of messages between states, and the history of all that was done to it (LÖVE wiki,
+/// `Channel`).
 ///
-/// A message is stored once, in the entry that put it. Beside the history stand the places of these entries, in order,
-/// so that each message is found by its number in one step.
+/// A message is stored once, in the entry that put it. Beside the history stand the places of these
+/// entries, in order, so that each message is found by its number in one step.
 #[derive(Debug, Drop)]
 pub struct Channel {
     history: Vec<Entry>,
@@ -56,7 +58,8 @@ impl Channel {
     ghost use Rattle.channel_core.specs.Lawful.{entry_limit, IsLater, IsLawful};
     ghost use Rattle.channel_core.specs.Taking.{IfTaken, UnlessTaken};
 
-    /// A Channel that nothing was done to yet, in constant time. It takes no memory until a message is put.
+    /// A Channel that nothing was done to yet, in constant time. It takes no memory until a message
+    /// is put.
     pub fn new(alloc: Global) -> Channel
         ensures { result ≡ [] }
     {
@@ -67,15 +70,17 @@ impl Channel {
         }
     }
 
-    /// Sends a message (LÖVE wiki, `Channel:push`). It gives the place of the new entry in the history, and the message's
-    /// id, which counts the messages that were ever sent. Both begin at 1.
+    /// Sends a message (LÖVE wiki, `Channel:push`). It gives the place of the new entry in the
+    /// history, and the message's id, which counts the messages that were ever sent. Both begin at
+    /// 1.
     ///
-    /// Amortised constant time, whatever the length of the history: the message is moved in and not copied.
+    /// Amortised constant time, whatever the length of the history: the message is moved in and not
+    /// copied.
     ///
     /// # Errors
     ///
-    /// The message again, with [`PutFault::Full`] where the history has 2,000,000 entries or more, and with
-    /// [`PutFault::Memory`] where there is no room for the entry.
+    /// The message again, with [`PutFault::Full`] where the history has 2,000,000 entries or more,
+    /// and with [`PutFault::Memory`] where there is no room for the entry.
     pub fn put(&mut self, by: Stamp, value: Variant) -> Result<(u32, u32), (Variant, PutFault)>
         requires later { IsLater self.old by }
         ensures entry { OnOk result (self.new ≡ self.old ++ put_by by value ∷ []) }
@@ -99,15 +104,17 @@ impl Channel {
         Ok((place + 1, self.puts.len() as u32))
     }
 
-    /// Receives the message that has waited longest (LÖVE wiki, `Channel:pop`). It gives the place of the new entry in the
-    /// history, the message's id and the message; `None` where none waits, also at the limit of the history.
+    /// Receives the message that has waited longest (LÖVE wiki, `Channel:pop`). It gives the place
+    /// of the new entry in the history, the message's id and the message; `None` where none waits,
+    /// also at the limit of the history.
     ///
-    /// Amortised constant time, whatever the length of the history, and the time of one copy of the message.
+    /// Amortised constant time, whatever the length of the history, and the time of one copy of the
+    /// message.
     ///
     /// # Errors
     ///
-    /// [`PutFault::Full`] where a message waits and the history has 2,000,000 entries or more; [`PutFault::Memory`] where
-    /// there is no room for the entry or the copy.
+    /// [`PutFault::Full`] where a message waits and the history has 2,000,000 entries or more;
+    /// [`PutFault::Memory`] where there is no room for the entry or the copy.
     pub fn take(&mut self, by: Stamp) -> Result<Option<(u32, u32, Variant)>, PutFault>
         requires later { IsLater self.old by }
         ensures none { (result ≡ Ok None) ↔ (queue self.old ≡ []) }
@@ -133,7 +140,8 @@ impl Channel {
         Ok(Some((self.history.len() as u32, self.taken, message)))
     }
 
-    /// All that was done to this Channel, from the first entry on, in constant time. It takes no memory.
+    /// All that was done to this Channel, from the first entry on, in constant time. It takes no
+    /// memory.
     ///
     /// What was sent is what was received, in that order, and then what waits.
     pub fn history(&self) -> &[Entry]
@@ -158,7 +166,7 @@ impl Channel {
         self.taken
     }
 
-    /// The message that has waited longest.
+    // The message that has waited longest.
     fn front(&self) -> Option<&Variant>
         ensures { option_copied result ≡ front self.now }
     {
@@ -166,7 +174,7 @@ impl Channel {
         message_at(&self.history, place)
     }
 
-    /// Whether the history takes no further message and gives none.
+    // Whether the history takes no further message and gives none.
     fn is_full(&self) -> bool
         ensures { IsTrue result ↔ (entry_limit ≤ length self.now) }
     {

@@ -25,7 +25,7 @@ pub enum Change {
 impl Change {
     ghost use Rattle.channel_core.specs.History.{sent_by};
 
-    /// The message that this change sends, if it sends one.
+    // The message that this change sends, if it sends one.
     pub(crate) fn message(&self) -> Option<&Variant>
         ensures { option_copied result ≡ sent_by self.now }
     {

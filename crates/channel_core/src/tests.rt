@@ -8,7 +8,7 @@ use std::process::Abort;
 use std::test::Fail;
 use variant::Variant;
 
-/// A call of state 0, and the answer to it that was worked out by hand.
+// A call of state 0, and the answer to it that was worked out by hand.
 #[derive(Clone, Copy)]
 enum Call {
     /// The letter that is put, and the place and the id that this gives.
@@ -21,7 +21,7 @@ enum Call {
 
 use Call::{Empty, Put, Take};
 
-/// The message that is a text of this one letter.
+// The message that is a text of this one letter.
 fn message(alloc: Global, letter: u8) -> Result<Variant, Memory> {
     Ok(Variant::Bytes(Text::of(alloc, &[letter])?))
 }
@@ -33,7 +33,7 @@ fn is_text(message: &Variant, bytes: &[u8]) -> bool {
     }
 }
 
-/// State 0 puts a message, as its action of this number.
+// State 0 puts a message, as its action of this number.
 fn put(channel: &mut Channel, number: u32, message: Variant) -> Result<(u32, u32), PutFault>
     requires { NumbersBelow number channel.old }
     ensures { NumbersBelow (number + 1) channel.new }
@@ -44,7 +44,7 @@ fn put(channel: &mut Channel, number: u32, message: Variant) -> Result<(u32, u32
     }
 }
 
-/// State 0 takes a message, as its action of this number.
+// State 0 takes a message, as its action of this number.
 fn take(channel: &mut Channel, number: u32) -> Result<Option<(u32, u32, Variant)>, PutFault>
     requires { NumbersBelow number channel.old }
     ensures { NumbersBelow (number + 1) channel.new }
@@ -52,7 +52,7 @@ fn take(channel: &mut Channel, number: u32) -> Result<Option<(u32, u32, Variant)
     channel.take(Stamp { state: 0, number })
 }
 
-/// Makes the calls in order on a new Channel, numbered from 1.
+// Makes the calls in order on a new Channel, numbered from 1.
 fn played(rt: &impl Abort, alloc: Global, calls: &[Call]) -> Result<Channel, Fail>
     requires { length calls.now < 2 ^ 31 }
 {
@@ -166,7 +166,8 @@ fn numbers_rise_within_a_state_alone(rt: HostRuntime) -> Result<(), Fail> {
     Ok(())
 }
 
-/// A Channel with this many entries: messages that are nil, each put, and then taken where `in_turn`.
+// A Channel with this many entries: messages that are nil, each put, and then taken where
+// `in_turn`.
 fn filled(alloc: Global, entries: u32, in_turn: bool) -> Result<Channel, PutFault>
     requires { entries < 2 ^ 31 }
     ensures { IfOk result (NumbersBelow (entries + 1)) }

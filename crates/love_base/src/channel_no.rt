@@ -5,7 +5,7 @@ mod tests;
 
 use std::marker::Model;
 
-/// The greatest number of a Channel.
+// The greatest number of a Channel.
 const LAST: u32 = 1_024;
 
 /// A Channel's number, from 1 to 1,024. Contracts see it as that number.

@@ -13,8 +13,9 @@ use std::sync::Arc;
 /// Bytes that never change, with the name of the file that they came from, where there is one (LÖVE
 /// wiki, `Data`).
 ///
-/// Shares and views stand on one copy of the bytes, in any threads, which goes with the last of them.
-#[derive(Drop)]
+/// Shares and views stand on one copy of the bytes, in any threads, which goes with the last of
+/// them.
+#[derive(Debug, Drop)]
 pub struct Data {
     whole: Arc<Whole>,
     offset: usize,
@@ -22,7 +23,7 @@ pub struct Data {
     is_whole: bool,
 }
 
-#[derive(Drop)]
+#[derive(Debug, Drop)]
 struct Whole {
     bytes: Vec<u8>,
     name: Option<Text>,
@@ -35,7 +36,10 @@ impl Model for Data {
 
     ghost Value = { Contents };
 
-    ghost view = { λ d. record { bytes = slice_range (arc_value d.whole).bytes.items d.offset (d.offset + d.size); name = if d.is_whole then (arc_value d.whole).name else None } };
+    ghost view = { λ d. record {
+      bytes = slice_range (arc_value d.whole).bytes.items d.offset (d.offset + d.size);
+      name = if d.is_whole then (arc_value d.whole).name else None;
+    } };
 
     ghost invariant = { λ d. d.offset + d.size ≤ length (arc_value d.whole).bytes.items };
 }
@@ -103,15 +107,17 @@ impl Data {
         })
     }
 
-    /// The `size` bytes from `offset` on, counted from 0, as Data without a name on the same bytes, in
-    /// constant time (LÖVE wiki, `love.data.newDataView`); `None` where they don't lie within.
+    /// The `size` bytes from `offset` on, counted from 0, as Data without a name on the same bytes,
+    /// in constant time (LÖVE wiki, `love.data.newDataView`); `None` where they don't lie within.
     ///
     /// # Errors
     ///
     /// [`Memory`] where the bytes have no room for one more owner.
     pub fn view(&self, offset: usize, size: usize) -> Result<Option<Data>, Memory>
-        ensures within { IfOk result (λ view. IsSome view ↔ (offset + size ≤ length self.now.bytes)) }
-        ensures part { IfOk result (λ view. IfSome view (λ made. made ≡ part self.now offset size)) }
+        ensures within { IfOk result (λ view.
+            IsSome view ↔ (offset + size ≤ length self.now.bytes)) }
+        ensures part { IfOk result (λ view.
+            IfSome view (λ made. made ≡ part self.now offset size)) }
     {
         if offset > self.size || size > self.size - offset {
             return Ok(None);

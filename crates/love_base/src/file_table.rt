@@ -1,7 +1,6 @@
-ghost use Rattle.std.specs.Prelude.{◌≡◌, IfOk, IsSome, Option};
+ghost use Rattle.std.specs.Prelude.{◌≡◌, IfOk, IsSome, Option, nat_eq};
 ghost use Rattle.std.specs.List.{IsDistinct};
 ghost use Rattle.std.specs.Cmp.Lexicographic.{pointwise};
-ghost use Rattle.std.specs.Prelude.{nat_eq};
 ghost use Rattle.love_base.specs.Folder.{content, paths, stored};
 
 use crate::{Memory, Text};
@@ -10,7 +9,7 @@ use std::marker::Model;
 
 // Files in memory, no two of one path.
 #[derive(Debug, Drop)]
-pub struct FileTable {
+pub(crate) struct FileTable {
     files: Vec<(Text, Vec<u8>)>,
 }
 
@@ -28,7 +27,7 @@ impl Model for FileTable {
 }
 
 impl FileTable {
-    pub fn new(files: Vec<(Text, Vec<u8>)>) -> FileTable
+    pub(crate) fn new(files: Vec<(Text, Vec<u8>)>) -> FileTable
         requires { IsDistinct (pointwise nat_eq) (paths (stored files.items)) }
         ensures { result ≡ stored files.items }
     {
@@ -36,7 +35,7 @@ impl FileTable {
     }
 
     // A copy of each path, in order.
-    pub fn paths(&self, alloc: Global) -> Result<Vec<Text>, Memory>
+    pub(crate) fn paths(&self, alloc: Global) -> Result<Vec<Text>, Memory>
         ensures told { IfOk result (λ names. names.items ≡ paths self.now) }
         ensures differ { IfOk result (λ names. IsDistinct (pointwise nat_eq) names.items) }
     {
@@ -48,7 +47,7 @@ impl FileTable {
     }
 
     // A copy of the bytes of the file of that path.
-    pub fn content(&self, alloc: Global, path: &Text) -> Result<Vec<u8>, Memory>
+    pub(crate) fn content(&self, alloc: Global, path: &Text) -> Result<Vec<u8>, Memory>
         requires { IsSome (content self.now path.now) }
         ensures { IfOk result (λ bytes. content self.now path.now ≡ Option.Some bytes.items) }
     {

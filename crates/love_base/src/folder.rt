@@ -6,13 +6,15 @@ ghost use Rattle.love_base.specs.Fault.{HasRisen};
 ghost use Rattle.love_base.specs.Folder.{File, paths, content};
 
 use crate::{Memory, Text};
-use std::alloc::Global;
+use std::alloc::{AllocError, AllocFailed, Global};
+use std::io;
+use std::io::ErrorKind;
 
 /// Why a call of a [`Folder`] gave nothing.
 #[derive(Clone, Copy, Debug, PartialEq, Eq)]
 pub enum FolderErr {
     /// The folder or the file can't be read. The folder counts it as a fault.
-    Failed,
+    Failed = 1,
     /// Want of memory.
     Memory,
 }
@@ -27,14 +29,50 @@ impl From<Memory> for FolderErr {
     }
 }
 
+impl From<AllocError> for FolderErr {
+    ghost use Rattle.love_base.specs.declared.folder.FolderErr.TheVariants.{Memory};
+
+    ghost from_gives = { λ _ fault. fault ≡ Memory };
+
+    fn from(_refused: AllocError) -> FolderErr {
+        FolderErr::Memory
+    }
+}
+
+impl<T: Drop> From<AllocFailed<T>> for FolderErr {
+    ghost use Rattle.love_base.specs.declared.folder.FolderErr.TheVariants.{Memory};
+
+    ghost from_gives = { λ _ fault. fault ≡ Memory };
+
+    fn from(_refused: AllocFailed<T>) -> FolderErr {
+        FolderErr::Memory
+    }
+}
+
+impl From<io::Error> for FolderErr {
+    ghost use Rattle.std.specs.Prelude.{◌≡◌, ◌↔◌};
+    ghost use Rattle.std.specs.IoError.{error_kind};
+    ghost use Rattle.std.specs.declared.io.ErrorKind.TheVariants.{OutOfMemory};
+    ghost use Rattle.love_base.specs.declared.folder.FolderErr.TheVariants.{Memory};
+
+    ghost from_gives = { λ fault own. (own ≡ Memory) ↔ (error_kind fault ≡ OutOfMemory) };
+
+    fn from(fault: io::Error) -> FolderErr {
+        match fault.kind() {
+            ErrorKind::OutOfMemory => FolderErr::Memory,
+            _ => FolderErr::Failed,
+        }
+    }
+}
+
 /// A folder of files, as a game is one.
 pub trait Folder {
-    /// How many calls have failed so far: only a failure raises it. A count that reaches the end of its
-    /// type stays there.
+    /// How many calls have failed so far: only a failure raises it. A count that reaches the end of
+    /// its type stays there.
     ghost faults: { Self → ℕ };
 
-    /// The files below a folder, by its path, where the folder tells them. Those of the real file system
-    /// don't.
+    /// The files below a folder, by its path, where the folder tells them. Those of the real file
+    /// system don't.
     ghost files: { Self → List ℕ → Option (List File) };
 
     /// How many calls were made, as far as the folder counts them.
@@ -44,12 +82,14 @@ pub trait Folder {
     ///
     /// # Errors
     ///
-    /// [`FolderErr::Failed`] where the folder can't be read, [`FolderErr::Memory`] where there is no
-    /// room for the paths.
+    /// [`FolderErr::Failed`] where the folder can't be read, [`FolderErr::Memory`] where there is
+    /// no room for the paths.
     fn list(&mut self, alloc: Global, at: &Text) -> Result<Vec<Text>, FolderErr>
-        ensures told { IfOk result (λ names. IfSome (files self.old at.now) (λ files. names.items ≡ paths files)) }
+        ensures told { IfOk result (λ names.
+            IfSome (files self.old at.now) (λ files. names.items ≡ paths files)) }
         ensures differ { IfOk result (λ names. IsDistinct (pointwise nat_eq) names.items) }
-        ensures failed { IsErrOf result FolderErr.Failed → HasRisen (faults self.old) (faults self.new) }
+        ensures failed { IsErrOf result FolderErr.Failed
+            → HasRisen (faults self.old) (faults self.new) }
         ensures counted { faults self.old ≤ faults self.new }
         ensures steady { ¬ IsErrOf result FolderErr.Failed → faults self.new ≡ faults self.old }
         ensures called { calls self.new ≤ calls self.old + 1 }
@@ -59,12 +99,15 @@ pub trait Folder {
     ///
     /// # Errors
     ///
-    /// [`FolderErr::Failed`] where the file can't be read, [`FolderErr::Memory`] where there is no room
-    /// for its bytes.
+    /// [`FolderErr::Failed`] where the file can't be read, [`FolderErr::Memory`] where there is no
+    /// room for its bytes.
     fn read(&mut self, alloc: Global, at: &Text, name: &Text) -> Result<Vec<u8>, FolderErr>
         requires { ForSome (files self.old at.now) (λ files. IsSome (content files name.now)) }
-        ensures told { IfOk result (λ bytes. IfSome (files self.old at.now) (λ files. content files name.now ≡ Option.Some bytes.items)) }
-        ensures failed { IsErrOf result FolderErr.Failed → HasRisen (faults self.old) (faults self.new) }
+        ensures told { IfOk result (λ bytes.
+            IfSome (files self.old at.now) (λ files.
+            content files name.now ≡ Option.Some bytes.items)) }
+        ensures failed { IsErrOf result FolderErr.Failed
+            → HasRisen (faults self.old) (faults self.new) }
         ensures counted { faults self.old ≤ faults self.new }
         ensures steady { ¬ IsErrOf result FolderErr.Failed → faults self.new ≡ faults self.old }
         ensures called { calls self.new ≤ calls self.old + 1 }

@@ -5,53 +5,17 @@ ghost use Rattle.std.specs.Ordering.{nat_cmp};
 ghost use Rattle.std.specs.Cmp.Lexicographic.{pointwise, slice_cmp};
 
 use crate::{FolderErr, Memory, Text};
-use std::alloc::{AllocError, AllocFailed, Global};
+use std::alloc::Global;
+use std::fs;
 use std::fs::DirEntry;
 use std::io::ErrorKind;
 use std::rt::Files;
-use std::{fs, io};
 
 // How deep folders may be nested below the one that is listed.
 const DEEPEST: u8 = 16;
 
-impl From<AllocError> for FolderErr {
-    ghost use Rattle.love_base.specs.declared.folder.FolderErr.TheVariants.{Memory};
-
-    ghost from_gives = { λ _ fault. fault ≡ Memory };
-
-    fn from(_refused: AllocError) -> FolderErr {
-        FolderErr::Memory
-    }
-}
-
-impl<T: Drop> From<AllocFailed<T>> for FolderErr {
-    ghost use Rattle.love_base.specs.declared.folder.FolderErr.TheVariants.{Memory};
-
-    ghost from_gives = { λ _ fault. fault ≡ Memory };
-
-    fn from(_refused: AllocFailed<T>) -> FolderErr {
-        FolderErr::Memory
-    }
-}
-
-impl From<io::Error> for FolderErr {
-    ghost use Rattle.std.specs.Prelude.{◌≡◌, ◌↔◌};
-    ghost use Rattle.std.specs.IoError.{error_kind};
-    ghost use Rattle.std.specs.declared.io.ErrorKind.TheVariants.{OutOfMemory};
-    ghost use Rattle.love_base.specs.declared.folder.FolderErr.TheVariants.{Memory};
-
-    ghost from_gives = { λ fault own. (own ≡ Memory) ↔ (error_kind fault ≡ OutOfMemory) };
-
-    fn from(fault: io::Error) -> FolderErr {
-        match fault.kind() {
-            ErrorKind::OutOfMemory => FolderErr::Memory,
-            _ => FolderErr::Failed,
-        }
-    }
-}
-
 // The text where it is UTF-8, as every path of the file system has to be.
-pub fn utf8(text: &Text) -> Result<&str, FolderErr>
+pub(crate) fn utf8(text: &Text) -> Result<&str, FolderErr>
     ensures same { IfOk result (λ found. found.now ≡ text.now) }
     ensures never_memory { ¬ IsErrOf result FolderErr.Memory }
 {
@@ -62,7 +26,7 @@ pub fn utf8(text: &Text) -> Result<&str, FolderErr>
 }
 
 // The paths of the regular files below a folder, in byte order, no two alike.
-pub fn list_files<R: Files + AllocGlobal + Clone + Drop>(
+pub(crate) fn list_files<R: Files + AllocGlobal + Clone + Drop>(
     rt: &R,
     alloc: Global,
     at: &Text,
@@ -72,6 +36,7 @@ pub fn list_files<R: Files + AllocGlobal + Clone + Drop>(
 {
     let mut names = walk(rt, alloc, utf8(at)?)?;
     names.sort()?;
+    // A folder that changes while it is read may name a file twice.
     names.dedup();
     Ok(names)
 }
@@ -85,8 +50,9 @@ struct Unopened {
     depth: u8,
 }
 
-// The paths of the files below `root`. The folder found last is opened first, so that a nesting without end,
-// as a link to a folder above itself makes one, is met in few steps; and nothing of it is on the stack.
+// The paths of the files below `root`. The folder found last is opened first, so that a nesting
+// without end, as a link to a folder above itself makes one, is met in few steps; and nothing of it
+// is on the stack.
 fn walk<R: Files + AllocGlobal + Clone + Drop>(
     rt: &R,
     alloc: Global,
@@ -96,7 +62,7 @@ fn walk<R: Files + AllocGlobal + Clone + Drop>(
     let mut unopened = Vec::new(alloc);
     let path = String::new(alloc);
     unopened.push(Unopened { path, depth: 0 })?;
-    // More folders than this are on no machine.
+    // The bound is for the proof that this ends: no machine has more folders.
     for _ in 0..u64::MAX {
         let Some(folder) = unopened.pop() else {
             return Ok(names);
@@ -147,8 +113,8 @@ enum Kind {
     Neither,
 }
 
-// What an entry, or what the link that it is leads to, is. A link that leads nowhere is neither a file
-// nor a folder.
+// What an entry, or what the link that it is leads to, is. A link that leads nowhere, through a
+// file or in a circle is neither a file nor a folder.
 fn kind_of<R: Files + AllocGlobal + Clone + Drop>(
     rt: &R,
     entry: &DirEntry<R, Global>,
@@ -157,7 +123,14 @@ fn kind_of<R: Files + AllocGlobal + Clone + Drop>(
         Ok(metadata) if metadata.is_dir() => Ok(Kind::Folder),
         Ok(metadata) if metadata.is_file() => Ok(Kind::File),
         Ok(_) => Ok(Kind::Neither),
-        Err(fault) if fault.kind() == ErrorKind::NotFound => Ok(Kind::Neither),
+        Err(fault) if leads_nowhere(fault.kind()) => Ok(Kind::Neither),
         Err(fault) => Err(FolderErr::from(fault)),
     }
+}
+
+fn leads_nowhere(kind: ErrorKind) -> bool {
+    matches!(
+        kind,
+        ErrorKind::NotFound | ErrorKind::NotADirectory | ErrorKind::FilesystemLoop
+    )
 }

@@ -12,8 +12,8 @@ use crate::{Folder, FolderErr, Text};
 use std::alloc::Global;
 use std::marker::Model;
 
-/// A folder in memory that tells its files, and fails at chosen calls. It answers alike whatever folder
-/// it is asked for. Its calls look at the files in order, and copy what they give.
+/// A folder in memory that tells its files, and fails at chosen calls. It answers alike whatever
+/// folder it is asked for. Its calls look at the files in order, and copy what they give.
 #[derive(Debug, Drop)]
 pub struct MemFolder {
     files: FileTable,
@@ -29,8 +29,9 @@ impl Model for MemFolder {
 }
 
 impl MemFolder {
-    /// A folder of these files, by path and bytes, no two of one path. The calls whose numbers, counted
-    /// from 1 over `list` and `read` alike, stand in `fails` answer [`FolderErr::Failed`]. Constant time.
+    /// A folder of these files, by path and bytes, no two of one path. The calls whose numbers,
+    /// counted from 1 over `list` and `read` alike, stand in `fails` answer [`FolderErr::Failed`].
+    /// Constant time.
     pub fn new(files: Vec<(Text, Vec<u8>)>, fails: Vec<u64>) -> MemFolder
         requires { IsDistinct (pointwise nat_eq) (paths (stored files.items)) }
         ensures files { result.files ≡ stored files.items }
@@ -54,7 +55,8 @@ impl Folder for MemFolder {
         ensures told { IfOk result (λ names. names.items ≡ paths self.old.files) }
         ensures differ { IfOk result (λ names. IsDistinct (pointwise nat_eq) names.items) }
         ensures fails { IsErrOf result FolderErr.Failed ↔ IsTrue (fails_next self.old.script) }
-        ensures failed { IsErrOf result FolderErr.Failed → HasRisen self.old.script.faults self.new.script.faults }
+        ensures failed { IsErrOf result FolderErr.Failed
+            → HasRisen self.old.script.faults self.new.script.faults }
         ensures script { self.new.script ≡ after_call self.old.script }
         ensures kept { self.new.files ≡ self.old.files }
     {
@@ -66,9 +68,11 @@ impl Folder for MemFolder {
 
     fn read(&mut self, alloc: Global, _at: &Text, name: &Text) -> Result<Vec<u8>, FolderErr>
         requires { IsSome (content self.old.files name.now) }
-        ensures told { IfOk result (λ bytes. content self.old.files name.now ≡ Option.Some bytes.items) }
+        ensures told { IfOk result (λ bytes.
+            content self.old.files name.now ≡ Option.Some bytes.items) }
         ensures fails { IsErrOf result FolderErr.Failed ↔ IsTrue (fails_next self.old.script) }
-        ensures failed { IsErrOf result FolderErr.Failed → HasRisen self.old.script.faults self.new.script.faults }
+        ensures failed { IsErrOf result FolderErr.Failed
+            → HasRisen self.old.script.faults self.new.script.faults }
         ensures script { self.new.script ≡ after_call self.old.script }
         ensures kept { self.new.files ≡ self.old.files }
     {

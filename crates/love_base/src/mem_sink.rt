@@ -21,14 +21,18 @@ impl Model for MemSink {
 
     ghost Value = { ScriptedSink };
 
-    ghost view = { λ sink. record { most = sink.most; script = sink.script; taken = sink.taken.items } };
+    ghost view = { λ sink. record {
+      most = sink.most;
+      script = sink.script;
+      taken = sink.taken.items;
+    } };
 
     ghost invariant = { λ sink. 0 < sink.most };
 }
 
 impl MemSink {
-    /// A sink that takes at most `most` bytes a call. The calls whose numbers, counted from 1, stand in
-    /// `fails` answer [`SinkErr::Failed`]. It takes no memory until bytes are written.
+    /// A sink that takes at most `most` bytes a call. The calls whose numbers, counted from 1,
+    /// stand in `fails` answer [`SinkErr::Failed`]. It takes no memory until bytes are written.
     pub fn new(alloc: Global, most: usize, fails: Vec<u64>) -> MemSink
         requires { 0 < most }
         ensures most { result.most ≡ most }
@@ -55,16 +59,18 @@ impl Sink for MemSink {
 
     ghost taken = { λ sink. Option.Some sink.taken };
 
-    /// A write for which there is no room answers [`SinkErr::Memory`], takes nothing, and is no fault.
-    /// The bytes taken are copied.
+    /// A write for which there is no room answers [`SinkErr::Memory`], takes nothing, and is no
+    /// fault. The bytes taken are copied.
     fn write(&mut self, piece: &[u8]) -> Result<usize, SinkErr>
         requires { 0 < length piece.now }
         ensures count { IfOk result (λ count. count ≡ min self.old.most (length piece.now)) }
         ensures some { IfOk result (λ count. 0 < count) }
-        ensures taken { IfOk result (λ count. self.new.taken ≡ self.old.taken ++ take count piece.now) }
+        ensures taken { IfOk result (λ count.
+            self.new.taken ≡ self.old.taken ++ take count piece.now) }
         ensures refused { OnErr result (self.new.taken ≡ self.old.taken) }
         ensures fails { IsErrOf result SinkErr.Failed ↔ IsTrue (fails_next self.old.script) }
-        ensures failed { IsErrOf result SinkErr.Failed → HasRisen self.old.script.faults self.new.script.faults }
+        ensures failed { IsErrOf result SinkErr.Failed
+            → HasRisen self.old.script.faults self.new.script.faults }
         ensures script { self.new.script ≡ after_call self.old.script }
         ensures most { self.new.most ≡ self.old.most }
     {

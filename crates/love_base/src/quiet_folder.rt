@@ -8,8 +8,9 @@ use crate::{Folder, FolderErr, Text};
 use std::alloc::Global;
 use std::marker::Model;
 
-/// A folder in memory that tells its files, and never fails. Like [`MemFolder`](crate::MemFolder) it
-/// answers alike whatever folder it is asked for, looks at the files in order, and copies what it gives.
+/// A folder in memory that tells its files, and never fails. Like [`MemFolder`](crate::MemFolder)
+/// it answers alike whatever folder it is asked for, looks at the files in order, and copies what
+/// it gives.
 #[derive(Debug, Drop)]
 pub struct QuietFolder {
     files: FileTable,

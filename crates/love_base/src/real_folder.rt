@@ -14,11 +14,11 @@ use std::rt::Files;
 
 /// The folders of the file system, as the process sees them.
 ///
-/// `list` gives the regular files, also those that a link leads to, in the byte order of their paths,
-/// and passes over what is no file and no folder, as a link that leads nowhere. A name that isn't UTF-8,
-/// folders nested over 16 deep, and a folder below that can't be opened are failures of the whole
-/// listing. It opens each folder once and looks at each entry once, then sorts; `read` reads one file
-/// whole.
+/// `list` gives the regular files, also those that a link leads to, in the byte order of their
+/// paths, and passes over what is no file and no folder, as a link that leads nowhere. A name that
+/// isn't UTF-8, folders nested over 16 deep, and a folder below that can't be opened are failures
+/// of the whole listing. It opens each folder once and looks at each entry once, then sorts; `read`
+/// reads one file whole.
 #[derive(Drop)]
 pub struct RealFolder<R: Files + AllocGlobal + Clone + Drop> {
     rt: R,

@@ -5,8 +5,8 @@ use crate::{Sink, SinkErr};
 use std::io;
 use std::marker::Model;
 
-/// Standard output. Each call is one write of the system, and keeps no byte back. An output that takes
-/// nothing of a piece is a failure.
+/// Standard output. Each call is one write of the system, and keeps no byte back. An output that
+/// takes nothing of a piece is a failure.
 #[derive(Drop)]
 pub struct RealSink<R: Print + Drop> {
     rt: R,

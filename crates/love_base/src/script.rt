@@ -6,7 +6,7 @@ use std::marker::Model;
 
 // Which calls fail, chosen beforehand by their numbers from 1.
 #[derive(Debug, Drop)]
-pub struct Script {
+pub(crate) struct Script {
     fails: Vec<u64>,
     calls: u64,
     faults: u64,
@@ -17,11 +17,15 @@ impl Model for Script {
 
     ghost Value = { Chosen };
 
-    ghost view = { λ script. record { fails = script.fails.items; calls = script.calls; faults = script.faults } };
+    ghost view = { λ script. record {
+      fails = script.fails.items;
+      calls = script.calls;
+      faults = script.faults;
+    } };
 }
 
 impl Script {
-    pub fn new(fails: Vec<u64>) -> Script
+    pub(crate) fn new(fails: Vec<u64>) -> Script
         ensures { result ≡ unused fails.items }
     {
         Script {
@@ -32,7 +36,7 @@ impl Script {
     }
 
     // Counts a call, and says whether it fails.
-    pub fn call_fails(&mut self) -> bool
+    pub(crate) fn call_fails(&mut self) -> bool
         ensures answer { result ≡ fails_next self.old }
         ensures after { self.new ≡ after_call self.old }
         ensures risen { result ≡ true → HasRisen self.old.faults self.new.faults }

@@ -6,15 +6,15 @@ ghost use Rattle.love_base.specs.Fault.{HasRisen};
 #[derive(Clone, Copy, Debug, PartialEq, Eq)]
 pub enum SinkErr {
     /// The bytes can't be written. The sink counts it as a fault.
-    Failed,
+    Failed = 1,
     /// Want of memory.
     Memory,
 }
 
 /// Where the printed bytes go.
 pub trait Sink {
-    /// How many calls have failed so far: only a failure raises it. A count that reaches the end of its
-    /// type stays there.
+    /// How many calls have failed so far: only a failure raises it. A count that reaches the end of
+    /// its type stays there.
     ghost faults: { Self → ℕ };
 
     /// The bytes taken so far, where the sink tells them. Standard output doesn't.
@@ -24,15 +24,18 @@ pub trait Sink {
     ///
     /// # Errors
     ///
-    /// [`SinkErr::Failed`] where nothing can be written, [`SinkErr::Memory`] where there is no room for
-    /// the bytes. A sink that tells its bytes took none then.
+    /// [`SinkErr::Failed`] where nothing can be written, [`SinkErr::Memory`] where there is no room
+    /// for the bytes. A sink that tells its bytes took none then.
     fn write(&mut self, piece: &[u8]) -> Result<usize, SinkErr>
         requires { 0 < length piece.now }
         ensures some { IfOk result (λ count. 0 < count) }
         ensures within { IfOk result (λ count. count ≤ length piece.now) }
-        ensures taken { IfOk result (λ count. taken self.new ≡ option_map (λ before. before ++ take count piece.now) (taken self.old)) }
+        ensures taken { IfOk result (λ count.
+            taken self.new
+            ≡ option_map (λ before. before ++ take count piece.now) (taken self.old)) }
         ensures refused { OnErr result (taken self.new ≡ taken self.old) }
-        ensures failed { IsErrOf result SinkErr.Failed → HasRisen (faults self.old) (faults self.new) }
+        ensures failed { IsErrOf result SinkErr.Failed
+            → HasRisen (faults self.old) (faults self.new) }
         ensures counted { faults self.old ≤ faults self.new }
         ensures steady { ¬ IsErrOf result SinkErr.Failed → faults self.new ≡ faults self.old };
 }

@@ -1,5 +1,5 @@
-//! What no contract says: that each call succeeds where there is memory, and what the adapters do over
-//! real files and standard output.
+//! What no contract says: that each call succeeds where there is memory, and what the adapters do
+//! over real files and standard output.
 
 mod lists;
 mod memory_folders;

@@ -4,8 +4,8 @@ use crate::Memory;
 use std::alloc::Global;
 use std::marker::Model;
 
-/// A string of Lua: any bytes, in no encoding (Lua 5.1 manual §2.2). Contracts see it as the list of
-/// its bytes.
+/// A string of Lua: any bytes, in no encoding (Lua 5.1 manual §2.2). Contracts see it as the list
+/// of its bytes.
 #[derive(Debug, Drop)]
 pub struct Text {
     bytes: Vec<u8>,

@@ -75,7 +75,7 @@ pushed_in_order program =
     sym tells.sends ∙ sent_in_order (history program) tells.finds ∙ ap (λ r. r ++ queue (history program)) tells.receives
 
 pub popped_first : (program : List Statement) → IsPrefix (popped program) (pushed program)
-popped_first program = (queue (history program), sym (pushed_in_order program))
+popped_first program = (queue (history program), pushed_in_order program)
 
 -- no list is longer than itself
 rest_empty : {X : Type 0} (xs ys : List X) → xs ≡ xs ++ ys → ys ≡ []

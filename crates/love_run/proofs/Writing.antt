@@ -15,6 +15,11 @@ pub on_err : {T E : Type 0} {P : Type 0} (r : Result T E) → P → OnErr r P
 on_err (Ok value) holds = tt
 on_err (Err error) holds = holds
 
+-- what follows from a fact at an error
+pub on_err_then : {T E : Type 0} {P Q : Type 0} (r : Result T E) → OnErr r P → (P → Q) → OnErr r Q
+on_err_then (Ok value) holds follows = tt
+on_err_then (Err error) holds follows = follows holds
+
 -- the first bytes of a piece are the next ones of the whole
 pub piece_of : (n m count : ℕ) (whole : List ℕ) → count ≤ m → take count (take m (drop n whole)) ≡ take count (drop n whole)
 piece_of n m count whole few = take_take count m (drop n whole) few
@@ -32,11 +37,6 @@ piece_written before mid after out piece written count so_far now is =
     ∙ ap (λ m. option_map (λ b. b ++ take count piece) m) so_far
     ∙ taken_twice before (take written out) (take count piece)
     ∙ ap (λ part. option_map (λ b. b ++ part) before) (ap (λ part. take written out ++ part) is ∙ sym (take-add written count out))
-
--- an output that stops in the middle of a piece
-pub cut_short : (before mid done piece rest whole : List ℕ) → (left : List ℕ) × (done ++ left ≡ mid ++ piece) → mid ++ (piece ++ rest) ≡ whole → (left : List ℕ) × (done ++ left ≡ whole)
-cut_short before mid done piece rest whole part is =
-    (part.0 ++ rest, sym (append_assoc done part.0 rest) ∙ ap (λ front. front ++ rest) part.1 ∙ append_assoc mid piece rest ∙ is)
 
 -- a piece lies within what is left
 pub piece_within : (out : List ℕ) (written end count : ℕ) → written ≤ length out → count ≤ length (take (end - written) (drop written out)) → (written + count ≤ length out) × (count ≤ end - written)

@@ -1,5 +1,5 @@
 -- How a run of the program ends.
-use Rattle.std.specs.Prelude.{◌≡◌, ℕ, List, ◌∷◌, [], Some, None, Result, Ok, Err, codes, ◌⊎◌, ⊤}
+use Rattle.std.specs.Prelude.{◌≡◌, ℕ, ◌+◌, List, ◌∷◌, ◌++◌, [], length, IfSome, Option, Some, None, Result, Ok, Err, codes, ◌⊎◌, ⊤}
 use Rattle.love_base.specs.Folder.{File, content}
 use Rattle.love_base.specs.declared.folder.FolderErr.{FolderErr}
 use Rattle.love_base.specs.declared.folder.FolderErr.TheVariants as folder
@@ -9,7 +9,7 @@ use Rattle.love_base.specs.declared.sink.SinkErr.TheVariants as sink
 use Rattle.love_base.specs.Prefix.{IsPrefix}
 use Rattle.channel_core.specs.declared.entry.Entry.{Entry}
 use Rattle.love_run.specs.Program.{HasForm, IsProgram}
-use Rattle.love_run.specs.Run.{history, output}
+use Rattle.love_run.specs.Run.{history, output, IsCut}
 use Rattle.love_run.specs.declared.statement.Statement.{Statement}
 use Rattle.love_run.specs.declared.load.LoadFault.{LoadFault}
 use Rattle.love_run.specs.declared.load.LoadFault.TheVariants as load
@@ -20,7 +20,12 @@ main_lua = codes "main.lua"
 
 -- the files have a `main.lua`, and it is that of a program of these statements
 abbrev pub HasProgram : List File → List Statement → Type 0
-HasProgram files statements = (source : List ℕ) × (content files main_lua ≡ Some source) × IsProgram source statements
+HasProgram files statements =
+    (source : List ℕ) × (content files main_lua ≡ Some source) × IsProgram source statements
+
+-- the same of the files of a folder, where it tells them
+abbrev pub IsProgramOf : Option (List File) → List Statement → Type 0
+IsProgramOf told program = IfSome told (λ files. HasProgram files program)
 
 -- the files have a `main.lua` that isn't of the form that is read
 abbrev pub HasOtherForm : List File → Type 0
@@ -34,10 +39,22 @@ HasNoMain files = content files main_lua ≡ None
 abbrev pub RanWhole : List Statement → List ℕ → List (List Entry) → Type 0
 RanWhole program out channels = (out ≡ output program) × (channels ≡ history program ∷ [])
 
+-- the program was cut short in one of its statements: those before it ran whole
+pub record StopsIn (program : List Statement) (out : List ℕ) (done : List Entry) : Type 0 where
+  pub before : List Statement
+  pub statement : Statement
+  pub after : List Statement
+  pub parts : program ≡ before ++ statement ∷ after
+  pub cut : IsCut (length before + 1) statement (output before) out (history before) done
+
+-- so what it printed and did are beginnings of what it prints and does
+abbrev pub IsCutShort : List Statement → List ℕ → List Entry → Type 0
+IsCutShort program out done =
+    StopsIn program out done × IsPrefix out (output program) × IsPrefix done (history program)
+
 -- the program ran from its start and was cut short
 abbrev pub RanInPart : List Statement → List ℕ → List (List Entry) → Type 0
-RanInPart program out channels =
-    IsPrefix out (output program) × ((done : List Entry) × (channels ≡ done ∷ []) × IsPrefix done (history program))
+RanInPart program out channels = (done : List Entry) × (channels ≡ done ∷ []) × IsCutShort program out done
 
 -- the program didn't begin to run
 abbrev pub RanNothing : List ℕ → List (List Entry) → Type 0

@@ -39,7 +39,8 @@ IsPlain byte = (32 ≤ byte) × (byte ≤ 126) × (byte ≢ quote) × (byte ≢ 
 abbrev pub SpellsLiteral : Variant → List ℕ → Type 0
 SpellsLiteral Nil text = ⊥
 SpellsLiteral (Bool truth) text = ⊥
-SpellsLiteral (Num n) text = (0 < length text) × (length text ≤ 14) × AllDigits 10 text × (n ≡ pos (digits_value 10 text))
+SpellsLiteral (Num n) text =
+    (0 < length text) × (length text ≤ 14) × AllDigits 10 text × (n ≡ pos (digits_value 10 text))
 SpellsLiteral (Bytes bytes) text = All IsPlain bytes × (text ≡ quote ∷ (bytes ++ quote ∷ []))
 
 -- the line is a literal between these two texts

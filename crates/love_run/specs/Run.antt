@@ -1,8 +1,9 @@
 -- What a program prints, and what it does to its Channel.
-use Rattle.std.specs.Prelude.{ℕ, ◌+◌, List, [], ◌∷◌, ◌++◌, Option, Some, None, codes, true, false}
+use Rattle.std.specs.Prelude.{◌≡◌, ◌⊎◌, ℕ, ◌+◌, List, [], ◌∷◌, ◌++◌, Option, Some, None, codes, true, false}
 use Rattle.std.specs.List.{filter_map}
 use Rattle.std.specs.Option.{option_to_list}
 use Rattle.std.specs.Fmt.{signed_decimal}
+use Rattle.love_base.specs.Prefix.{IsPrefix, IsProperPrefix}
 use Rattle.love_base.specs.declared.stamp.Stamp.{Stamp}
 use Rattle.variant.specs.declared.message.Variant.{Variant}
 use Rattle.variant.specs.declared.message.Variant.TheVariants.{Nil, Bool, Num, Bytes}
@@ -51,7 +52,8 @@ added line h PrintPop = popped_entry (caller line) (front h)
 -- what the statements from this line on print, where the Channel has this history before them
 abbrev pub output_from : ℕ → List Entry → List Statement → List ℕ
 output_from line h [] = []
-output_from line h (statement ∷ statements) = printed h statement ++ output_from (line + 1) (h ++ added line h statement) statements
+output_from line h (statement ∷ statements) =
+    printed h statement ++ output_from (line + 1) (h ++ added line h statement) statements
 
 -- the Channel's history after the statements from this line on
 abbrev pub history_from : ℕ → List Entry → List Statement → List Entry
@@ -65,6 +67,25 @@ output program = output_from 1 [] program
 -- what a program does to its Channel
 abbrev pub history : List Statement → List Entry
 history program = history_from 1 [] program
+
+-- of this text a beginning was printed, and not all
+abbrev pub PrintsInPart : List ℕ → List ℕ → List ℕ → Type 0
+PrintsInPart text out out' = (part : List ℕ) × IsProperPrefix part text × (out' ≡ out ++ part)
+
+-- The statement on this line was cut short, where the Channel had the history h: of what it prints and of what it adds
+-- a beginning came about, and of one of the two not all.
+abbrev pub StopsShort : ℕ → List Entry → Statement → List ℕ → List Entry → Type 0
+StopsShort line h statement printing adding =
+    (IsProperPrefix printing (printed h statement) × IsPrefix adding (added line h statement))
+    ⊎ (IsPrefix printing (printed h statement) × IsProperPrefix adding (added line h statement))
+
+-- the statement on this line was cut short, between these outputs and these histories
+pub record IsCut (line : ℕ) (statement : Statement) (out out' : List ℕ) (h h' : List Entry) : Type 0 where
+  pub printing : List ℕ
+  pub adding : List Entry
+  pub short : StopsShort line h statement printing adding
+  pub prints : out' ≡ out ++ printing
+  pub does : h' ≡ h ++ adding
 
 -- the message that a statement pushes
 abbrev pub pushed_by : Statement → Option Variant
@@ -87,7 +108,8 @@ popped_by h PrintPop = option_to_list (front h)
 -- the messages that the statements from this line on pop, in order
 abbrev pub popped_from : ℕ → List Entry → List Statement → List Variant
 popped_from line h [] = []
-popped_from line h (statement ∷ statements) = popped_by h statement ++ popped_from (line + 1) (h ++ added line h statement) statements
+popped_from line h (statement ∷ statements) =
+    popped_by h statement ++ popped_from (line + 1) (h ++ added line h statement) statements
 
 -- the messages that a program pops, in order
 abbrev pub popped : List Statement → List Variant

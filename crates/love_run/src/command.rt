@@ -4,7 +4,7 @@ ghost use Rattle.love_run.specs.Command.{IsCommand, IsFolderWord};
 use love_base::Text;
 
 // The folder that the words name, where they are those of the command.
-pub fn folder_of(words: &[Text]) -> Option<&Text>
+pub(crate) fn folder_of(words: &[Text]) -> Option<&Text>
     ensures { MatchOption result
         (¬ IsCommand words.now)
         (λ word. (words.now ≡ word.now ∷ []) × IsFolderWord word.now) }

@@ -1,7 +1,7 @@
 ghost use Rattle.std.specs.Prelude.{◌≡◌, ◌+◌, ◌<◌, ◌≤◌, length, IfOk, IfSome, IsErrOf};
 ghost use Rattle.love_base.specs.Fault.{HasRisen};
 ghost use Rattle.channel_core.specs.Lawful.{entry_limit};
-ghost use Rattle.love_run.specs.Outcome.{HasNoMain, HasOtherForm, HasProgram, status_of};
+ghost use Rattle.love_run.specs.Outcome.{HasNoMain, HasOtherForm, IsProgramOf, status_of};
 
 use crate::reader::{ReadFault, read_program};
 use crate::statement::Statement;
@@ -12,20 +12,20 @@ use std::alloc::Global;
 // The file of a game that runs first.
 const MAIN: &[u8] = b"main.lua";
 
-/// Why a game isn't loaded.
+// Why a game isn't loaded.
 #[derive(Clone, Copy, Debug, PartialEq, Eq)]
-pub enum LoadFault {
-    /// The folder has no `main.lua`.
+pub(crate) enum LoadFault {
+    // The folder has no `main.lua`.
     NoMain,
-    /// The folder or `main.lua` can't be read.
+    // The folder or `main.lua` can't be read.
     Folder,
-    /// `main.lua` isn't of the form that is read yet.
+    // `main.lua` isn't of the form that is read yet.
     OutOfForm,
     Memory,
 }
 
 impl LoadFault {
-    pub fn status(self) -> u8
+    pub(crate) fn status(self) -> u8
         ensures { result ≡ status_of self }
     {
         match self {
@@ -61,17 +61,20 @@ impl From<FolderErr> for LoadFault {
 }
 
 // The statements of the game's `main.lua`.
-pub fn load<F: Folder>(
+pub(crate) fn load<F: Folder>(
     alloc: Global,
     at: &Text,
     folder: &mut F,
 ) -> Result<Vec<Statement>, LoadFault>
     ensures program { IfOk result (λ statements.
-        IfSome (F.files folder.old at.now) (λ files. HasProgram files statements.items)) }
+        IsProgramOf (F.files folder.old at.now) statements.items) }
     ensures few { IfOk result (λ statements. length statements.items < entry_limit) }
-    ensures no_main { IsErrOf result LoadFault.NoMain → IfSome (F.files folder.old at.now) HasNoMain }
-    ensures out_of_form { IsErrOf result LoadFault.OutOfForm → IfSome (F.files folder.old at.now) HasOtherForm }
-    ensures failed { IsErrOf result LoadFault.Folder → HasRisen (F.faults folder.old) (F.faults folder.new) }
+    ensures no_main { IsErrOf result LoadFault.NoMain
+        → IfSome (F.files folder.old at.now) HasNoMain }
+    ensures out_of_form { IsErrOf result LoadFault.OutOfForm
+        → IfSome (F.files folder.old at.now) HasOtherForm }
+    ensures failed { IsErrOf result LoadFault.Folder
+        → HasRisen (F.faults folder.old) (F.faults folder.new) }
     ensures told { F.faults folder.old < F.faults folder.new → IsErrOf result LoadFault.Folder }
     ensures called { F.calls folder.new ≤ F.calls folder.old + 2 }
     ensures kept { F.files folder.new ≡ F.files folder.old }

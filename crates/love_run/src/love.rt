@@ -5,7 +5,7 @@ ghost use Rattle.love_base.specs.Prefix.{IsPrefix};
 ghost use Rattle.channel_core.specs.History.{front};
 ghost use Rattle.channel_core.specs.Lawful.{entry_limit};
 ghost use Rattle.love_run.specs.Command.{folder_named, IsCommand};
-ghost use Rattle.love_run.specs.Outcome.{end_status, HasNoMain, HasOtherForm, HasProgram, IsStatus, RanInPart, RanNothing, RanWhole, SaysNothingRan, SaysRanWhole};
+ghost use Rattle.love_run.specs.Outcome.{end_status, HasNoMain, HasOtherForm, HasProgram, IsProgramOf, IsStatus, RanInPart, RanNothing, RanWhole, SaysNothingRan, SaysRanWhole};
 ghost use Rattle.love_run.specs.Run.{history, popped, pushed};
 ghost use Rattle.love_run.specs.declared.statement.Statement.{Statement};
 
@@ -22,7 +22,8 @@ use std::alloc::Global;
 
 /// Reads a game, runs it and writes what it prints: all that the program does.
 ///
-/// `words` are those after the program's name. The report's status is 0 or one of [`crate::status`].
+/// `words` are those after the program's name. The report's status is 0 or one of
+/// [`crate::status`].
 #[tactic(auto, using(crate::proofs::Order::popped_first, crate::proofs::Order::drained))]
 pub fn love<F: Folder, S: Sink>(
     alloc: Global,
@@ -33,25 +34,31 @@ pub fn love<F: Folder, S: Sink>(
     // What each status says.
     ensures status { IsStatus result.status }
     ensures usage { (result.status ≡ USAGE) ↔ ¬ IsCommand words.now }
-    ensures no_main { result.status ≡ NO_MAIN → IfSome (F.files folder.old (folder_named words.now)) HasNoMain }
+    ensures no_main { result.status ≡ NO_MAIN
+        → IfSome (F.files folder.old (folder_named words.now)) HasNoMain }
     ensures folder_fault { result.status ≡ UNREADABLE
         → HasRisen (F.faults folder.old) (F.faults folder.new) }
-    ensures folder_fault_told { F.faults folder.old < F.faults folder.new → result.status ≡ UNREADABLE }
+    ensures folder_fault_told { F.faults folder.old < F.faults folder.new
+        → result.status ≡ UNREADABLE }
     ensures output_fault { result.status ≡ UNWRITTEN
         → HasRisen (S.faults sink.old) (S.faults sink.new) }
     ensures output_fault_told { S.faults sink.old < S.faults sink.new
-        → (result.status ≡ UNWRITTEN) ⊎ (result.status ≡ OUT_OF_MEMORY) }
-    ensures out_of_form { result.status ≡ OUT_OF_FORM → IfSome (F.files folder.old (folder_named words.now)) HasOtherForm }
+        → (result.status ≡ UNWRITTEN)
+        ⊎ ((result.status ≡ OUT_OF_MEMORY) × ((program : List Statement)
+        × IsProgramOf (F.files folder.old (folder_named words.now)) program
+        × RanInPart program result.out result.channels)) }
+    ensures out_of_form { result.status ≡ OUT_OF_FORM
+        → IfSome (F.files folder.old (folder_named words.now)) HasOtherForm }
 
     // What was printed, and what became of the Channel.
-    ensures ran_whole { SaysRanWhole result.status
-        → IfSome (F.files folder.old (folder_named words.now)) (λ files.
-        (program : List Statement) × HasProgram files program
-        × RanWhole program result.out result.channels) }
+    ensures ran_whole { SaysRanWhole result.status → (program : List Statement)
+        × IsProgramOf (F.files folder.old (folder_named words.now)) program
+        × RanWhole program result.out result.channels }
     ensures ran_in_part { result.status ≡ OUT_OF_MEMORY
-        → IfSome (F.files folder.old (folder_named words.now)) (λ files. RanNothing result.out result.channels
-        ⊎ ((program : List Statement) × HasProgram files program
-        × RanInPart program result.out result.channels)) }
+        → RanNothing result.out result.channels ⊎ ((program : List Statement)
+        × IsProgramOf (F.files folder.old (folder_named words.now)) program
+        × (RanInPart program result.out result.channels
+        ⊎ RanWhole program result.out result.channels)) }
     ensures ran_nothing { SaysNothingRan result.status → RanNothing result.out result.channels }
 
     // What was written.
@@ -69,9 +76,10 @@ pub fn love<F: Folder, S: Sink>(
         (program : List Statement) → HasProgram files program
         → (result.status ≡ DONE) ⊎ (result.status ≡ OUT_OF_MEMORY)) }
 
-    // Of any program: it pops the first messages that it pushed, in that order; and a pop gives `nil`
-    // exactly where all that were pushed before it were popped.
-    ensures first_in_first_out { (program : List Statement) → IsPrefix (popped program) (pushed program) }
+    // Of any program: it pops the first messages that it pushed, in that order; and a pop gives
+    // `nil` exactly where all that were pushed before it were popped.
+    ensures first_in_first_out { (program : List Statement)
+        → IsPrefix (popped program) (pushed program) }
     ensures nil_where_drained { (before : List Statement)
         → (front (history before) ≡ None) ↔ (popped before ≡ pushed before) }
 
@@ -91,13 +99,17 @@ pub fn love<F: Folder, S: Sink>(
 // Runs a program and writes what it printed, also where it was cut short.
 fn play<S: Sink>(alloc: Global, program: &[Statement], sink: &mut S) -> Report
     requires { length program.now < entry_limit }
-    ensures status { (result.status ≡ DONE) ⊎ (result.status ≡ UNWRITTEN) ⊎ (result.status ≡ OUT_OF_MEMORY) }
+    ensures status { SaysRanWhole result.status ⊎ (result.status ≡ OUT_OF_MEMORY) }
     ensures failed { result.status ≡ UNWRITTEN → HasRisen (S.faults sink.old) (S.faults sink.new) }
     ensures told { S.faults sink.old < S.faults sink.new
-        → (result.status ≡ UNWRITTEN) ⊎ (result.status ≡ OUT_OF_MEMORY) }
-    ensures ran_whole { SaysRanWhole result.status → RanWhole program.now result.out result.channels }
+        → (result.status ≡ UNWRITTEN)
+        ⊎ ((result.status ≡ OUT_OF_MEMORY) × RanInPart program.now result.out result.channels) }
+    ensures ran_whole { SaysRanWhole result.status
+        → RanWhole program.now result.out result.channels }
     ensures ran_in_part { result.status ≡ OUT_OF_MEMORY
-        → RanNothing result.out result.channels ⊎ RanInPart program.now result.out result.channels }
+        → RanNothing result.out result.channels
+        ⊎ RanInPart program.now result.out result.channels
+        ⊎ RanWhole program.now result.out result.channels }
     ensures written { result.status ≡ DONE
         → S.taken sink.new ≡ option_map (λ before. before ++ result.out) (S.taken sink.old) }
     ensures written_in_part { (sent : List ℕ) × IsPrefix sent result.out
@@ -112,13 +124,13 @@ fn play<S: Sink>(alloc: Global, program: &[Statement], sink: &mut S) -> Report
     let written = write_all(sink, out.as_slice());
     channels.push(channel).unwrap();
     Report {
-        status: status_of(ran, written),
+        status: end_status(ran, written),
         out: Text::from_vec(out),
         channels: List::from_vec(channels),
     }
 }
 
-fn status_of(ran: Result<(), Memory>, written: Result<(), SinkErr>) -> u8
+fn end_status(ran: Result<(), Memory>, written: Result<(), SinkErr>) -> u8
     ensures { result ≡ end_status ran written }
 {
     match (ran, written) {

@@ -1,6 +1,7 @@
 //! `love_run FOLDER`: runs the game in a folder, and prints what it prints.
 //!
-//! [`love`] does all of it; `main` makes the real folder and output, calls it, and ends with its status.
+//! [`love`] does all of it; `main` takes the words, makes the real folder and output, calls it,
+//! says what its status means and ends with it.
 #![tactic(auto)]
 
 mod command;
@@ -28,7 +29,7 @@ fn main(rt: HostRuntime) -> ExitCode {
             let mut sink = RealSink::new(rt);
             love(rt.alloc(), words.as_slice(), &mut folder, &mut sink).status
         }
-        Err(status) => status,
+        Err(fault) => fault.status(),
     };
     if let Some(message) = status::message(status) {
         // Where standard error can't be written either, the status alone says it.

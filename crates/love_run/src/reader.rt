@@ -27,10 +27,10 @@ const PRINT_POP: &[u8] = b"print(love.thread.getChannel(\"x\"):pop())";
 
 const CLOSE: &[u8] = b")";
 
-/// Why a source isn't read.
+// Why a source isn't read.
 #[derive(Clone, Copy, Debug, PartialEq, Eq)]
-pub enum ReadFault {
-    /// It is too long, or one of its lines has none of the forms that are read.
+pub(crate) enum ReadFault {
+    // It is too long, or one of its lines has none of the forms that are read.
     OutOfForm,
     Memory,
 }
@@ -56,7 +56,7 @@ impl<T: Drop> From<AllocFailed<T>> for ReadFault {
 }
 
 // The statements of a source, one a line.
-pub fn read_program(alloc: Global, source: &[u8]) -> Result<Vec<Statement>, ReadFault>
+pub(crate) fn read_program(alloc: Global, source: &[u8]) -> Result<Vec<Statement>, ReadFault>
     ensures program { IfOk result (λ statements. IsProgram source.now statements.items) }
     ensures few { IfOk result (λ statements. length statements.items < entry_limit) }
     ensures out_of_form { IsErrOf result ReadFault.OutOfForm → ¬ HasForm source.now }
@@ -95,9 +95,11 @@ fn cut_line(source: &[u8]) -> (&[u8], Option<&[u8]>)
 
 // Where the first newline stands.
 fn line_end(source: &[u8]) -> Option<usize>
-    ensures found { IfSome result (λ end. (end < length source.now) × (slice_index source.now end ≡ newline)) }
+    ensures found { IfSome result (λ end.
+        (end < length source.now) × (slice_index source.now end ≡ newline)) }
     ensures first { IfSome result (λ end. (k : ℕ) → k < end → slice_index source.now k ≢ newline) }
-    ensures none { IfNone result ((k : ℕ) → k < length source.now → slice_index source.now k ≢ newline) }
+    ensures none { IfNone result
+        ((k : ℕ) → k < length source.now → slice_index source.now k ≢ newline) }
 {
     source.iter().position(|byte| *byte == b'\n')
 }
@@ -178,7 +180,8 @@ fn all_digits(text: &[u8]) -> bool
 // What stands between `front` and `end`, where a text begins with the one and ends with the other.
 fn between<'a>(text: &'a [u8], front: &[u8], end: &[u8]) -> Option<&'a [u8]>
     ensures found { IfSome result (λ inner. text.now ≡ front.now ++ (inner.now ++ end.now)) }
-    ensures none { IfNone result ((inner : List ℕ) → ¬ (text.now ≡ front.now ++ (inner ++ end.now))) }
+    ensures none { IfNone result
+        ((inner : List ℕ) → ¬ (text.now ≡ front.now ++ (inner ++ end.now))) }
 {
     match behind(text, front) {
         Some(rest) => before(rest, end),

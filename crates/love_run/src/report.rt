@@ -17,7 +17,7 @@ pub struct Report {
 
 impl Report {
     // A report of a run that didn't begin.
-    pub fn unbegun(alloc: Global, status: u8) -> Report
+    pub(crate) fn unbegun(alloc: Global, status: u8) -> Report
         ensures status { result.status ≡ status }
         ensures out { result.out ≡ [] }
         ensures channels { result.channels ≡ [] }

@@ -2,8 +2,9 @@ ghost use Rattle.std.specs.Prelude.{◌≡◌, ◌<◌, ◌++◌, ◌∷◌, [],
 ghost use Rattle.love_base.specs.Prefix.{IsPrefix};
 ghost use Rattle.channel_core.specs.Lawful.{entry_limit, NumbersBelow};
 ghost use Rattle.channel_core.specs.History.{front, put_by};
+ghost use Rattle.love_run.specs.Outcome.{IsCutShort};
 ghost use Rattle.love_run.specs.Program.{newline};
-ghost use Rattle.love_run.specs.Run.{added, caller, history, output, popped_entry, printed, shown, shown_answer};
+ghost use Rattle.love_run.specs.Run.{added, caller, history, IsCut, output, popped_entry, printed, PrintsInPart, shown, shown_answer};
 
 use crate::statement::Statement;
 use channel_core::{Channel, PutFault};
@@ -12,9 +13,9 @@ use love_base::{Memory, Stamp};
 use std::alloc::Global;
 use variant::Variant;
 
-// Runs the statements in order. What they print is added to `out`, and what they do to the Channel to its
-// history; where memory runs out, a part of it.
-pub fn run(
+// Runs the statements in order. What they print is added to `out`, and what they do to the Channel
+// to its history; where memory runs out, a part of it.
+pub(crate) fn run(
     alloc: Global,
     statements: &[Statement],
     channel: &mut Channel,
@@ -25,8 +26,7 @@ pub fn run(
     requires silent { out.old.items ≡ [] }
     ensures printed { OnOk result (out.new.items ≡ output statements.now) }
     ensures done { OnOk result (channel.new ≡ history statements.now) }
-    ensures printed_in_part { OnErr result (IsPrefix out.new.items (output statements.now)) }
-    ensures done_in_part { OnErr result (IsPrefix channel.new (history statements.now)) }
+    ensures cut { OnErr result (IsCutShort statements.now out.new.items channel.new) }
 {
     for (index, statement) in statements.iter().enumerate() {
         step(alloc, statement, index as u32 + 1, channel, out)?;
@@ -44,12 +44,12 @@ fn step(
 ) -> Result<(), Memory>
     requires later { NumbersBelow line channel.old }
     requires room { length channel.old < entry_limit }
-    ensures printed { OnOk result (out.new.items ≡ out.old.items ++ printed channel.old statement.now) }
-    ensures done { OnOk result (channel.new ≡ channel.old ++ added line channel.old statement.now) }
-    ensures printed_in_part { OnErr result
-        (IsPrefix out.new.items (out.old.items ++ printed channel.old statement.now)) }
-    ensures done_in_part { OnErr result
-        (IsPrefix channel.new (channel.old ++ added line channel.old statement.now)) }
+    ensures printed { OnOk result
+        (out.new.items ≡ out.old.items ++ printed channel.old statement.now) }
+    ensures done { OnOk result
+        (channel.new ≡ channel.old ++ added line channel.old statement.now) }
+    ensures cut { OnErr result
+        (IsCut line statement.now out.old.items out.new.items channel.old channel.new) }
 {
     match statement {
         Statement::Blank => Ok(()),
@@ -79,7 +79,8 @@ fn pop(channel: &mut Channel, line: u32) -> Result<Option<Variant>, Memory>
     requires later { NumbersBelow line channel.old }
     requires room { length channel.old < entry_limit }
     ensures answer { IfOk result (λ answer. answer ≡ front channel.old) }
-    ensures ok { OnOk result (channel.new ≡ channel.old ++ popped_entry (caller line) (front channel.old)) }
+    ensures ok { OnOk result
+        (channel.new ≡ channel.old ++ popped_entry (caller line) (front channel.old)) }
     ensures err { OnErr result (channel.new ≡ channel.old) }
 {
     match channel.take(caller(line)) {
@@ -102,9 +103,10 @@ fn caller(line: u32) -> Stamp
 
 // Adds the answer of a pop and a newline.
 fn print_answer(answer: &Option<Variant>, out: &mut Vec<u8>) -> Result<(), Memory>
-    ensures ok { OnOk result (out.new.items ≡ out.old.items ++ (shown_answer answer.now ++ newline ∷ [])) }
+    ensures ok { OnOk result
+        (out.new.items ≡ out.old.items ++ (shown_answer answer.now ++ newline ∷ [])) }
     ensures err { OnErr result
-        (IsPrefix out.new.items (out.old.items ++ (shown_answer answer.now ++ newline ∷ []))) }
+        (PrintsInPart (shown_answer answer.now ++ newline ∷ []) out.old.items out.new.items) }
 {
     match answer {
         Some(message) => print(message, out),
@@ -114,9 +116,10 @@ fn print_answer(answer: &Option<Variant>, out: &mut Vec<u8>) -> Result<(), Memor
 
 // Adds the message and a newline, or a part of them where there is no room.
 fn print(message: &Variant, out: &mut Vec<u8>) -> Result<(), Memory>
-    ensures ok { OnOk result (out.new.items ≡ out.old.items ++ (shown message.now ++ newline ∷ [])) }
+    ensures ok { OnOk result
+        (out.new.items ≡ out.old.items ++ (shown message.now ++ newline ∷ [])) }
     ensures err { OnErr result
-        (IsPrefix out.new.items (out.old.items ++ (shown message.now ++ newline ∷ []))) }
+        (PrintsInPart (shown message.now ++ newline ∷ []) out.old.items out.new.items) }
 {
     show(message, out)?;
     out.push(b'\n')?;

@@ -1,5 +1,5 @@
--- A Lua table as the list of its places, in the order in which their keys first got a value: each key with its value, or with
--- none where it was cleared.
+-- A Lua table as the list of its places, in the order in which their keys first got a value: each key with its value,
+-- or with none where it was cleared.
 use Rattle.std.specs.Prelude.{ℕ, zero, suc, ◌+◌, ◌≤◌, Bool, true, false, List, [], ◌∷◌, length, Option, None, Some, Result, Ok, Err, if◌then◌else◌, IsSome, IsNone, is_some}
 use Rattle.std.specs.List.{IsDistinct}
 use Rattle.std.specs.Map.{keys_of}

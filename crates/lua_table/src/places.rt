@@ -1,4 +1,5 @@
 //! What a table does with its places, over the map that holds them.
+
 ghost use Rattle.std.specs.Prelude.{◌≡◌, ◌+◌, ◌<◌, ◌≤◌, drop, is_some, IfSome, IfNone, IsTrue, IsOk, OnOk, OnErr};
 ghost use Rattle.std.specs.Map.Iter.{deref_pair};
 ghost use Rattle.std.specs.Option.{option_map, option_copied};
@@ -11,10 +12,10 @@ use indexmap::IndexMap;
 use love_base::Memory;
 use std::hash::{BuildHasherDefault, Hash};
 
-/// The places of a table: each key with its value, or with none where it was cleared.
+// The places of a table: each key with its value, or with none where it was cleared.
 pub(crate) type Places<K, V> = IndexMap<K, Option<V>, BuildHasherDefault<KeyHasher>>;
 
-/// The value of a key, where it has one.
+// The value of a key, where it has one.
 pub(crate) fn value_of<'a, K: Position + Hash, V>(
     places: &'a Places<K, V>,
     key: &K,
@@ -24,7 +25,7 @@ pub(crate) fn value_of<'a, K: Position + Hash, V>(
     places.get(key)?.as_ref()
 }
 
-/// Gives a key a value, at its place or at the end.
+// Gives a key a value, at its place or at the end.
 pub(crate) fn set_place<K: Position + Hash + Drop, V: Drop>(
     places: &mut Places<K, V>,
     key: K,
@@ -39,7 +40,7 @@ pub(crate) fn set_place<K: Position + Hash + Drop, V: Drop>(
     Ok(())
 }
 
-/// Takes the value of a key away, if it has one.
+// Takes the value of a key away, if it has one.
 pub(crate) fn clear_place<K: Position + Hash, V: Drop>(places: &mut Places<K, V>, key: &K)
     ensures cleared { places.new.entries ≡ clear_key K.eq places.old.entries key.now }
     ensures distinct { IsUnique K.eq places.new }
@@ -51,10 +52,11 @@ pub(crate) fn clear_place<K: Position + Hash, V: Drop>(places: &mut Places<K, V>
     let _count = places.len();
 }
 
-/// The index behind the place of a key, where it has one.
+// The index behind the place of a key, where it has one.
 pub(crate) fn index_behind<K: Position + Hash, V>(places: &Places<K, V>, key: &K) -> Option<usize>
     ensures within { IfSome result (λ n. n ≤ index_map_len places.now) }
-    ensures found { IfSome result (λ n. next_after K.eq places.now.entries key.now ≡ Ok (first (drop n places.now.entries))) }
+    ensures found { IfSome result (λ n.
+        next_after K.eq places.now.entries key.now ≡ Ok (first (drop n places.now.entries))) }
     ensures known { is_some result ≡ has_place K.eq places.now.entries key.now }
 {
     // An index and its successor fit: a map holds fewer than 2^63 places.
@@ -62,17 +64,19 @@ pub(crate) fn index_behind<K: Position + Hash, V>(places: &Places<K, V>, key: &K
     Some(places.get_index_of(key)? + 1)
 }
 
-/// The pair at an index, where the key there has a value.
+// The pair at an index, where the key there has a value.
 fn pair_at<K: Position + Hash, V>(places: &Places<K, V>, index: usize) -> Option<(&K, &V)>
     requires { index < index_map_len places.now }
-    ensures value { IfSome result (λ pair. first (drop index places.now.entries) ≡ Some (deref_pair pair)) }
-    ensures cleared { IfNone result (first (drop index places.now.entries) ≡ first (drop (index + 1) places.now.entries)) }
+    ensures value { IfSome result (λ pair.
+        first (drop index places.now.entries) ≡ Some (deref_pair pair)) }
+    ensures cleared { IfNone result
+        (first (drop index places.now.entries) ≡ first (drop (index + 1) places.now.entries)) }
 {
     let (key, value) = places.get_index(index)?;
     Some((key, value.as_ref()?))
 }
 
-/// The first pair with a value from an index on.
+// The first pair with a value from an index on.
 pub(crate) fn first_from<K: Position + Hash, V>(
     places: &Places<K, V>,
     start: usize,
@@ -88,7 +92,7 @@ pub(crate) fn first_from<K: Position + Hash, V>(
     None
 }
 
-/// The least border, where the positions up to `filled` are known to have values.
+// The least border, where the positions up to `filled` are known to have values.
 pub(crate) fn border_from<K: Position + Hash + Drop, V>(places: &Places<K, V>, filled: u64) -> u64
     requires { IsFilledTo K.eq K.at_position places.now.entries filled }
     ensures { IsLeastBorder K.eq K.at_position places.now.entries result }

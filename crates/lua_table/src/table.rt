@@ -1,4 +1,5 @@
 //! The table.
+
 ghost use Rattle.std.specs.Prelude.{◌≡◌, ℕ, ◌≤◌, ◌↔◌, [], OnOk, OnErr, IfOk, IsOk, IsErr, IsTrue, IsFalse, IsSomeAnd};
 ghost use Rattle.std.specs.List.{IsDistinct};
 ghost use Rattle.std.specs.Map.{keys_of};
@@ -22,7 +23,7 @@ use std::marker::Model;
 pub struct NoSuchKey;
 
 /// A Lua table (Lua 5.1 manual §2.2) without its metatable.
-#[derive(Drop)]
+#[derive(Debug, Drop)]
 pub struct Table<K: Position + Hash, V> {
     places: Places<K, V>,
     border: u64,
@@ -56,9 +57,15 @@ impl<K: Position + Hash + Drop, V: Drop> Table<K, V> {
         value_of(&self.places, key)
     }
 
-    /// Gives `key` a value. A key that was set before keeps its place and takes no memory, a new one goes last.
+    /// Gives `key` a value. A key that was set before keeps its place and takes no memory, a new
+    /// one goes last.
     ///
-    /// Expected constant time; where this closes the first gap, the time also grows with the values right behind it.
+    /// Expected constant time; where this closes the first gap, the time also grows with the values
+    /// right behind it.
+    ///
+    /// # Errors
+    ///
+    /// [`Memory`] where there is no room for a new key. The table is then as it was.
     pub fn set(&mut self, key: K, value: V) -> Result<(), Memory>
         ensures ok { OnOk result (self.new ≡ table.set K.eq self.old key value) }
         ensures refused { OnErr result (self.new ≡ self.old) }
@@ -76,7 +83,8 @@ impl<K: Position + Hash + Drop, V: Drop> Table<K, V> {
         Ok(())
     }
 
-    /// Takes the value of `key` away, if it has one. The key keeps its place. Takes no memory, expected constant time.
+    /// Takes the value of `key` away, if it has one. The key keeps its place. Takes no memory,
+    /// expected constant time.
     pub fn clear_key(&mut self, key: &K)
         ensures cleared { self.new ≡ table.clear_key K.eq self.old key.now }
         ensures distinct { IsDistinct K.eq (keys_of self.new) }
@@ -89,15 +97,21 @@ impl<K: Position + Hash + Drop, V: Drop> Table<K, V> {
         }
     }
 
-    /// The first pair with a value, or the first one after the place of a key (Lua 5.1 manual §5.1, `next`).
+    /// The first pair with a value, or the first one after the place of a key (Lua 5.1 manual §5.1,
+    /// `next`).
     ///
-    /// Takes no memory. Expected constant time, and time in the count of the cleared places that it passes.
+    /// Takes no memory. Expected constant time, and time in the count of the cleared places that it
+    /// passes.
     ///
     /// # Errors
+    ///
     /// [`NoSuchKey`] where the key was never set.
     pub fn next(&self, after: Option<&K>) -> Result<Option<(&K, &V)>, NoSuchKey>
-        ensures pair { IfOk result (λ pair. table.next K.eq self.now (option_copied after.entry) ≡ Ok (option_map deref_pair pair)) }
-        ensures unknown { IsErr result ↔ IsSomeAnd after.entry (λ key. IsFalse (table.has_place K.eq self.now key.now)) }
+        ensures pair { IfOk result (λ pair.
+            table.next K.eq self.now (option_copied after.entry)
+            ≡ Ok (option_map deref_pair pair)) }
+        ensures unknown { IsErr result
+            ↔ IsSomeAnd after.entry (λ key. IsFalse (table.has_place K.eq self.now key.now)) }
     {
         let start = match after {
             None => 0,

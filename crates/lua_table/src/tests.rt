@@ -2,7 +2,7 @@ use crate::{NoSuchKey, Position, Table};
 use std::alloc::AllocError;
 use std::test::Fail;
 
-/// Keys as a Lua state has them: most of them have no position.
+// Keys as a Lua state has them: most of them have no position.
 #[derive(Clone, Copy, Debug, PartialEq, Eq, Hash)]
 enum Key {
     Flag(bool),
@@ -22,9 +22,17 @@ impl Position for Key {
 
     ghost last_position = { 99999999999999 };
 
-    ghost at_position = { λ n. if nat_le 1 n && nat_le n 99999999999999 then Some (Whole (pos n)) else None };
+    ghost at_position = { λ n.
+        if nat_le 1 n && nat_le n 99999999999999 then Some (Whole (pos n)) else None };
 
-    ghost position_of = { elim [ Flag b ↦ None | Whole z ↦ elim z [ pos n ↦ (if nat_le 1 n && nat_le n 99999999999999 then Some n else None) | negsuc n ↦ None ] | Text t ↦ None ] };
+    ghost position_of = { elim [
+      | Flag b ↦ None
+      | Whole z ↦ elim z [
+        | pos n ↦ (if nat_le 1 n && nat_le n 99999999999999 then Some n else None)
+        | negsuc n ↦ None
+      ]
+      | Text t ↦ None
+    ] };
 
     fn at(n: u64) -> Option<Self> {
         if n == 0 || n > LAST as u64 {
@@ -54,7 +62,7 @@ enum Step {
     Clear(Key),
 }
 
-/// Whether the step was taken: only want of memory hinders it.
+// Whether the step was taken: only want of memory hinders it.
 fn took(table: &mut Table<Key, u32>, step: Step) -> bool {
     match step {
         Step::Set(key, value) => table.set(key, value).is_ok(),
@@ -123,7 +131,7 @@ fn a_key_keeps_its_place(rt: HostRuntime) {
 
 type Pairs = Vec<(Key, Option<u32>)>;
 
-/// The step on a plain list of pairs.
+// The step on a plain list of pairs.
 fn took_plainly(pairs: &mut Pairs, step: Step) -> Result<(), AllocError> {
     let (key, value) = match step {
         Step::Set(key, value) => (key, Some(value)),
@@ -150,7 +158,7 @@ fn value_in(pairs: &Pairs, key: Key) -> Option<u32> {
     None
 }
 
-/// The count of values at 1, 2, 3 and so on, which here ends at 40.
+// The count of values at 1, 2, 3 and so on, which here ends at 40.
 fn plain_border(pairs: &Pairs) -> u64 {
     let mut border = 0;
     for n in 0..40u64 {
@@ -162,7 +170,8 @@ fn plain_border(pairs: &Pairs) -> u64 {
     border
 }
 
-/// Whether the table walks over the pairs with values, in their order, and has these values at their keys.
+// Whether the table walks over the pairs with values, in their order, and has these values at their
+// keys.
 fn walks_as(table: &Table<Key, u32>, pairs: &Pairs) -> bool {
     let mut after = None;
     for (key, value) in pairs {
@@ -179,7 +188,7 @@ fn walks_as(table: &Table<Key, u32>, pairs: &Pairs) -> bool {
     table.next(after) == Ok(None)
 }
 
-/// The keys 1 to 40 and seven others.
+// The keys 1 to 40 and seven others.
 fn key_of(n: u64) -> Key {
     match n {
         0 => Flag(false),
@@ -193,7 +202,7 @@ fn key_of(n: u64) -> Key {
     }
 }
 
-/// Three sets to a clear, on keys and with values that a linear congruence scatters.
+// Three sets to a clear, on keys and with values that a linear congruence scatters.
 fn step_of(seed: u64) -> Step {
     let key = key_of((seed >> 33) % 47);
     let value = ((seed >> 17) & 0xffff) as u32;
@@ -220,5 +229,17 @@ fn a_table_is_a_plain_list_of_pairs(rt: HostRuntime) -> Result<(), Fail> {
         assert_eq!(rt; table.border(), plain_border(&pairs), "step {at}: {step:?}");
     }
     assert_eq!(rt; pairs.len(), 47);
+    Ok(())
+}
+
+#[test]
+fn a_table_shows_its_places(rt: HostRuntime) -> Result<(), Fail> {
+    let mut table = Table::new(rt.alloc());
+    assert!(rt; took(&mut table, Step::Set(Whole(1), 10)));
+    let text = format!(in rt.alloc(); "{table:?}")?;
+    assert_eq!(rt;
+        text.as_str(),
+        "Table { places: {Whole(1): Some(10)}, border: 1 }"
+    );
     Ok(())
 }

@@ -2,7 +2,9 @@
 use Rattle.std.proofs.Common.{◌≡◌, ℕ, ◌+◌, ◌<◌, ◌≤◌, Bool, true, false, cond, List, [], ◌∷◌, length, Option, Some, None, refl, sym, subst, arith}
 use Rattle.std.specs.Prelude.{◌||◌, ◌&&◌, ◌==◌}
 use Rattle.std.specs.List.{prefix_len}
-use Rattle.lua_token.specs.Bytes.{is_blank, is_letter, is_digit, is_of, first_is}
+use Rattle.std.specs.Char.{is_ascii_digit}
+use Rattle.lua_value.specs.NumberText.{is_blank}
+use Rattle.lua_token.specs.Bytes.{is_letter, is_of, first_is}
 use Rattle.lua_token.specs.Run.{starts_number, number_length}
 use Rattle.lua_token.specs.Long.{level}
 use Rattle.lua_token.specs.Place.{begins, long_or_symbol}
@@ -54,7 +56,7 @@ passes_first false q m e = absurd cc
 
 pub word_is_some : (text : List ℕ) → begins text ≡ starts.Word → 0 < prefix_len (is_of InName) text
 word_is_some [] e = absurd (let h = tells [] starts.Word e in cc)
-word_is_some (b ∷ text) e = passes_first (is_letter b) (is_digit b) (prefix_len (is_of InName) text) (tells (b ∷ text) starts.Word e)
+word_is_some (b ∷ text) e = passes_first (is_letter b) (is_ascii_digit b) (prefix_len (is_of InName) text) (tells (b ∷ text) starts.Word e)
 
 digit_or_dot : (p q r : Bool) (m : ℕ) → (p || (q && r)) ≡ true → 0 < cond (p || q) (1 + m) 0
 digit_or_dot true q r m e = omega arith
@@ -65,7 +67,7 @@ pub number_is_some : (text : List ℕ) → begins text ≡ starts.Digits → 0 <
 unfolding number_length
 number_is_some [] e = absurd (let h = tells [] starts.Digits e in cc)
 number_is_some (b ∷ text) e =
-    let h = digit_or_dot (is_digit b) (b == 46) (first_is is_digit text) (prefix_len (is_of DigitOrDot) text) (tells (b ∷ text) starts.Digits e).1 in
+    let h = digit_or_dot (is_ascii_digit b) (b == 46) (first_is is_ascii_digit text) (prefix_len (is_of DigitOrDot) text) (tells (b ∷ text) starts.Digits e).1 in
     omega (arith, h)
 
 both : (p q : Bool) → (p && q) ≡ true → q ≡ true

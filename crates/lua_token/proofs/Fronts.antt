@@ -2,7 +2,7 @@
 use Rattle.std.proofs.Common.{◌≡◌, ℕ, suc, ◌+◌, ◌<◌, ◌≤◌, Bool, true, false, cond, eqb, List, [], ◌∷◌, ◌++◌, length, take, drop, Option, Some, None, refl, sym, ap, ◌∙◌, subst, inl, inr, arith, append_assoc, one-add}
 use Rattle.std.specs.Prelude.{◌||◌, ◌&&◌, ◌==◌}
 use Rattle.std.specs.List.{prefix_len, AllByRecursion}
-use Rattle.std.specs.Char.{digit_value}
+use Rattle.std.specs.Char.{digit_value, is_ascii_digit}
 use Rattle.std.specs.Str.Parse.{AllDigits}
 use Rattle.std.proofs.lemmas.Bool.{eqb-true}
 use Rattle.std.proofs.lemmas.Bool.Decides.{nat_tests}
@@ -15,7 +15,7 @@ use Rattle.lua_value.specs.Sign.Sign.{unsigned, plus, minus}
 use Rattle.lua_value.specs.Sign.{sign_text}
 use Rattle.lua_value.specs.Numeral.{Exponent, fraction_digits, fraction_text, exponent_text, IsExponent, IsNumeral}
 use Rattle.lua_value.specs.Numeral.Numeral.{hexadecimal, decimal}
-use Rattle.lua_token.specs.Bytes.{is_letter, is_digit, is_name_byte, is_of, first_is}
+use Rattle.lua_token.specs.Bytes.{is_letter, is_name_byte, is_of, first_is}
 use Rattle.lua_token.specs.Run.{starts_number, mark_length, number_length}
 use Rattle.lua_token.specs.Long.{level}
 use Rattle.lua_token.specs.declared.bytes.Class.TheVariants.{InName, DigitOrDot}
@@ -70,10 +70,10 @@ level_some bracket n (b ∷ text) e = omega arith
 letter_from : (b : ℕ) → is_letter b ≡ true → 65 ≤ b
 letter_from b e = grind (arith, nat_tests)
 
-digit_to : (b : ℕ) → is_digit b ≡ true → b ≤ 57
+digit_to : (b : ℕ) → is_ascii_digit b ≡ true → b ≤ 57
 digit_to b e = grind (arith, nat_tests)
 
-starts_low : (b : ℕ) (p q : Bool) → (is_digit b ≡ p) → (eqb b 46 ≡ q) → (r : Bool) → (p || (q && r)) ≡ true → b ≤ 57
+starts_low : (b : ℕ) (p q : Bool) → (is_ascii_digit b ≡ p) → (eqb b 46 ≡ q) → (r : Bool) → (p || (q && r)) ≡ true → b ≤ 57
 starts_low b true q dig dot r e = digit_to b dig
 starts_low b false true dig dot r e = omega (arith, eqb-true b 46 dot)
 starts_low b false false dig dot r e = absurd cc
@@ -81,10 +81,10 @@ starts_low b false false dig dot r e = absurd cc
 pub no_word_number : (b : ℕ) (text : List ℕ) → is_letter b ≡ true → starts_number (b ∷ text) ≡ true → ⊥
 no_word_number b text letter number =
     let high = letter_from b letter in
-    let low = starts_low b (is_digit b) (eqb b 46) refl refl (first_is is_digit text) number in
+    let low = starts_low b (is_ascii_digit b) (eqb b 46) refl refl (first_is is_ascii_digit text) number in
     omega (arith, high, low)
 
-digit_is : (b : ℕ) → digit_value b < 10 → is_digit b ≡ true
+digit_is : (b : ℕ) → digit_value b < 10 → is_ascii_digit b ≡ true
 digit_is b h = grind (arith, nat_tests)
 
 hex_is : (b : ℕ) → digit_value b < 16 → is_name_byte b ≡ true
@@ -104,11 +104,11 @@ all_hex (b ∷ digits) all = (hex_is b all.0, all_hex digits all.1)
 
 all_digits : (digits : List ℕ) → AllDigits 10 digits → AllByRecursion (λ b. is_of DigitOrDot b ≡ true) digits
 all_digits [] all = tt
-all_digits (b ∷ digits) all = (or_true (is_digit b) (b == 46) (digit_is b all.0), all_digits digits all.1)
+all_digits (b ∷ digits) all = (or_true (is_ascii_digit b) (b == 46) (digit_is b all.0), all_digits digits all.1)
 
 all_names : (digits : List ℕ) → AllDigits 10 digits → AllByRecursion (λ b. is_of InName b ≡ true) digits
 all_names [] all = tt
-all_names (b ∷ digits) all = (or_right (is_letter b) (is_digit b) (digit_is b all.0), all_names digits all.1)
+all_names (b ∷ digits) all = (or_right (is_letter b) (is_ascii_digit b) (digit_is b all.0), all_names digits all.1)
 
 all_append : (P : ℕ → Type 0) (xs ys : List ℕ) → AllByRecursion P xs → AllByRecursion P ys → AllByRecursion P (xs ++ ys)
 all_append P [] ys p q = q
@@ -120,7 +120,7 @@ all_head whole None p q = all_append (λ b. is_of DigitOrDot b ≡ true) whole [
 all_head whole (Some digits) p q = all_append (λ b. is_of DigitOrDot b ≡ true) whole (46 ∷ digits) (all_digits whole p) (refl, all_digits digits q)
 
 decimal_starts : (whole : List ℕ) (fraction : Option (List ℕ)) (others : List ℕ) → AllDigits 10 whole → AllDigits 10 (fraction_digits fraction) → 0 < length (whole ++ fraction_digits fraction) → starts_number (whole ++ (fraction_text fraction ++ others)) ≡ true
-decimal_starts (b ∷ whole) fraction others p q some = or_true (is_digit b) _ (digit_is b p.0)
+decimal_starts (b ∷ whole) fraction others p q some = or_true (is_ascii_digit b) _ (digit_is b p.0)
 decimal_starts [] None others p q some = absurd (omega (arith, some))
 decimal_starts [] (Some []) others p q some = absurd (omega (arith, some))
 decimal_starts [] (Some (b ∷ digits)) others p q some = digit_is b q.0
@@ -155,7 +155,7 @@ split_run head others all stop =
     drop_more : (n m : ℕ) (text rest : List ℕ) → drop n text ≡ rest → drop (n + m) text ≡ drop m rest
     drop_more n m text rest e = sym (Rattle.std.proofs.lemmas.List.drop-drop m n text) ∙ ap (drop m) e
 
-no_sign : (b : ℕ) → is_digit b ≡ true → (b == 43 || b == 45) ≡ false
+no_sign : (b : ℕ) → is_ascii_digit b ≡ true → (b == 43 || b == 45) ≡ false
 no_sign b e = grind (arith, nat_tests)
 
 -- an exponent's letter
@@ -163,7 +163,7 @@ is_mark : (letter : ℕ) → (letter ≡ 101) ⊎ (letter ≡ 69) → (letter ==
 is_mark letter (inl e) = rw e refl
 is_mark letter (inr e) = rw e refl
 
-mark_is_no_digit : (letter : ℕ) → (letter ≡ 101) ⊎ (letter ≡ 69) → (is_digit letter || letter == 46) ≡ false
+mark_is_no_digit : (letter : ℕ) → (letter ≡ 101) ⊎ (letter ≡ 69) → (is_ascii_digit letter || letter == 46) ≡ false
 mark_is_no_digit letter (inl e) = rw e refl
 mark_is_no_digit letter (inr e) = rw e refl
 

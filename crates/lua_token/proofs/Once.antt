@@ -7,7 +7,7 @@ use Rattle.std.proofs.lemmas.List.Elements.{All-from_recursion}
 use Rattle.std.specs.Option.{option_map}
 use Rattle.std.proofs.lemmas.Bool.{cases_lt}
 use Rattle.std.proofs.Math.Seq.{drop-length}
-use Rattle.lua_value.specs.Numeral.{IsAnswer}
+use Rattle.lua_value.specs.Numeral.{IsNumeralAnswer}
 use Rattle.lua_value.specs.declared.numeral.NumeralFault.{NumeralFault}
 use Rattle.lua_value.specs.declared.numeral.NumeralFault.TheVariants as numeral
 use Rattle.lua_value.proofs.NumeralLaws.{Denotes-unique}
@@ -28,7 +28,7 @@ use Rattle.lua_token.specs.declared.token.Token.{Token}
 
 -- ---- numbers
 
-judged_once : (text : List ℕ) (r s : Result ℤ NumeralFault) → IsAnswer text r → IsAnswer text s → r ≡ s
+judged_once : (text : List ℕ) (r s : Result ℤ NumeralFault) → IsNumeralAnswer text r → IsNumeralAnswer text s → r ≡ s
 judged_once text (Ok y) (Ok z) p q = ap (λ v. Ok v) (Denotes-unique text y z p.0 q.0)
 judged_once text (Ok y) (Err numeral.Malformed) ((t, formed, spelled, value), num) q = absurd (q (t, formed, spelled))
 judged_once text (Ok y) (Err numeral.NotWhole) p q = absurd (q.1 y p.0 p.1)
@@ -179,7 +179,7 @@ one_fault source f g (ts, a, p, at, line) (us, b, q, at', line') =
 
 -- ---- the answer
 
-answer_once : (source : List ℕ) (a b : Result (List Token) LexFault) → answers.IsAnswer source a → answers.IsAnswer source b → a ≡ b
+answer_once : (source : List ℕ) (a b : Result (List Token) LexFault) → answers.IsTokensAnswer source a → answers.IsTokensAnswer source b → a ≡ b
 answer_once source (Ok ts) (Ok us) p q = ap (λ v. Ok v) (one_list source ts us p.1 q.1)
 answer_once source (Ok ts) (Err f) p (inl q) = absurd (omega (arith, p.0, q.0))
 answer_once source (Ok ts) (Err f) p (inr q) = absurd (list_or_fault source ts f p.1 q.1)
@@ -191,9 +191,9 @@ answer_once source (Err f) (Err g) (inr p) (inl q) = absurd (omega (arith, p.0, 
 answer_once source (Err f) (Err g) (inr p) (inr q) = ap (λ v. Err v) (one_fault source f g p.1 q.1)
 
 pub gives_only : (source : List ℕ) (result : Result (Vec Token) LexFault) (answer : Result (List Token) LexFault)
-    → IfOk result (λ tokens. answers.IsAnswer source (Ok tokens.items))
-    → IfErr result (λ fault. (fault ≡ answers.no_memory) ⊎ answers.IsAnswer source (Err fault))
-    → answers.IsAnswer source answer → answers.Gives result answer
+    → IfOk result (λ tokens. answers.IsTokensAnswer source (Ok tokens.items))
+    → IfErr result (λ fault. (fault ≡ answers.no_memory) ⊎ answers.IsTokensAnswer source (Err fault))
+    → answers.IsTokensAnswer source answer → answers.Gives result answer
 gives_only source (Ok v) answer found fault h = answer_once source answer (Ok v.items) h found
 gives_only source (Err f) answer found (inl none) h = inl none
 gives_only source (Err f) answer found (inr is) h = inr (answer_once source answer (Err f) h is)
@@ -203,6 +203,6 @@ all_between source Between.nothing = tt
 all_between source (then_blank n at h) = all_between source h
 all_between source (then_token t start at h) = (at, all_between source h)
 
-pub all_stand : (source : List ℕ) (result : Result (Vec Token) LexFault) → IfOk result (λ tokens. answers.IsAnswer source (Ok tokens.items)) → IfOk result (λ tokens. All (StandsIn source) tokens.items)
+pub all_stand : (source : List ℕ) (result : Result (Vec Token) LexFault) → IfOk result (λ tokens. answers.IsTokensAnswer source (Ok tokens.items)) → IfOk result (λ tokens. All (StandsIn source) tokens.items)
 all_stand source (Ok v) found = All-from_recursion (StandsIn source) v.items (all_between source found.1)
 all_stand source (Err f) found = tt

@@ -5,10 +5,11 @@ use Rattle.std.specs.List.{AllByRecursion, prefix_len, starts_with}
 use Rattle.std.specs.Cmp.Lexicographic.{pointwise}
 use Rattle.std.proofs.lemmas.Slice.Eq.{bytes_eq-Decides}
 use Rattle.std.proofs.lemmas.List.{take_at, take-append-drop, length-take, length-drop, length-append, drop-drop}
-use Rattle.lua_value.specs.Numeral.{IsAnswer, IsNumeral}
+use Rattle.lua_value.specs.Numeral.{IsNumeralAnswer, IsNumeral}
 use Rattle.lua_value.specs.declared.numeral.NumeralFault.{NumeralFault}
 use Rattle.lua_value.specs.declared.numeral.NumeralFault.TheVariants as numeral
-use Rattle.lua_token.specs.Bytes.{is_letter, is_digit, is_of, first_is}
+use Rattle.std.specs.Char.{is_ascii_digit}
+use Rattle.lua_token.specs.Bytes.{is_letter, is_of, first_is}
 use Rattle.lua_token.specs.Spelling.{spelling, keywords, symbols, keyword_of, word_kind, symbol_at}
 use Rattle.lua_token.specs.Run.{starts_number, number_length}
 use Rattle.lua_token.specs.Long.{level, LongAt}
@@ -251,7 +252,7 @@ never_closing false false r v k c e = cc
 no_escape_closes : (text : List ℕ) → escape_at text ≡ Closing → ⊥
 unfolding escape_at
 no_escape_closes [] e = cc
-no_escape_closes (b ∷ text) e = never_closing (is_digit b) _ _ _ _ _ e
+no_escape_closes (b ∷ text) e = never_closing (is_ascii_digit b) _ _ _ _ _ e
 
 closing_first : (b : ℕ) (rest : List ℕ) → character_at b rest ≡ Closing → (after : List ℕ) × (rest ≡ b ∷ after)
 unfolding character_at
@@ -293,7 +294,7 @@ long_claim b text n size letter num quote opens at fits =
     (inr (n, subst (λ (t : List ℕ). level 91 t ≡ Some n) (sym whole) opens, subst (λ (t : List ℕ). LongAt n t (Some (length (take size (b ∷ text))))) (sym whole) there), long_longest b text n size letter num quote opens at)
 
 number_claim : (b : ℕ) (text : List ℕ) (kind : Kind) (n : ℕ) (judged : Result ℤ NumeralFault) → is_letter b ≡ false → starts_number (b ∷ text) ≡ true → 0 < number_length (b ∷ text)
-    → IsAnswer (take (number_length (b ∷ text)) (b ∷ text)) judged → ◌≡◌ {A = Result Step LexWhat} (Ok (Found kind n)) (number_step (number_length (b ∷ text)) judged) → Claim (b ∷ text) kind n
+    → IsNumeralAnswer (take (number_length (b ∷ text)) (b ∷ text)) judged → ◌≡◌ {A = Result Step LexWhat} (Ok (Found kind n)) (number_step (number_length (b ∷ text)) judged) → Claim (b ∷ text) kind n
 number_claim b text kind n (Ok z) letter is some answer e =
     let kind_is : kind ≡ Number z = cc in
     let n_is : n ≡ number_length (b ∷ text) = cc in

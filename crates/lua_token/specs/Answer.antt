@@ -17,9 +17,10 @@ abbrev pub no_memory : LexFault
 no_memory = record { line = 0; what = Memory }
 
 -- The answer for a source: its tokens; or that it is too long, and else its first fault.
-abbrev pub IsAnswer : List ℕ → Result (List Token) LexFault → Type 0
-IsAnswer source (Ok ts) = (length source ≤ max_length) × Cuts source ts
-IsAnswer source (Err fault) = ((max_length < length source) × (fault ≡ too_long)) ⊎ ((length source ≤ max_length) × Faults source fault)
+abbrev pub IsTokensAnswer : List ℕ → Result (List Token) LexFault → Type 0
+IsTokensAnswer source (Ok ts) = (length source ≤ max_length) × Cuts source ts
+IsTokensAnswer source (Err fault) =
+    ((max_length < length source) × (fault ≡ too_long)) ⊎ ((length source ≤ max_length) × Faults source fault)
 
 -- What was returned is this answer, unless memory ran out.
 abbrev pub Gives : Result (Vec Token) LexFault → Result (List Token) LexFault → Type 0

@@ -19,8 +19,10 @@ pub record StandsIn (source : List ℕ) (t : Token) : Type 0 where
 -- from one place up to another these tokens stand in order, and only blanks and comments between them
 pub data Between (source : List ℕ) : ℕ → List Token → ℕ → Type 0 where
   nothing : {place : ℕ} → Between source place [] place
-  then_blank : {place end : ℕ} {ts : List Token} (n : ℕ) → StandsAt (drop place source) (Ok (Skip n)) → Between source (place + n) ts end → Between source place ts end
-  then_token : {place end : ℕ} {ts : List Token} (t : Token) → t.start ≡ place → StandsIn source t → Between source (place + t.length) ts end → Between source place (t ∷ ts) end
+  then_blank : {place end : ℕ} {ts : List Token} (n : ℕ) → StandsAt (drop place source) (Ok (Skip n))
+      → Between source (place + n) ts end → Between source place ts end
+  then_token : {place end : ℕ} {ts : List Token} (t : Token) → t.start ≡ place → StandsIn source t
+      → Between source (place + t.length) ts end → Between source place (t ∷ ts) end
 
 -- the source is cut into these tokens
 abbrev pub Cuts : List ℕ → List Token → Type 0

@@ -1,4 +1,4 @@
--- Long brackets (Lua 5.1 manual, section 2.1): where they open, with the byte 91, and where they close first, with 93.
+-- Long brackets (Lua 5.1 manual §2.1): where they open, with the byte 91, and where they close first, with 93.
 use Rattle.std.specs.Prelude.{◌≡◌, ◌≢◌, ℕ, ◌+◌, ◌<◌, List, [], ◌∷◌, drop, Option, Some, None, ◌==◌, ◌&&◌, if◌then◌else◌}
 use Rattle.std.specs.List.{prefix_len}
 use Rattle.std.specs.Option.{option_map}
@@ -19,4 +19,5 @@ FirstClosing n body None = (k : ℕ) → level 93 (drop k body) ≢ Some n
 
 -- the length of the long string that opens at the front with level n, brackets included, where it is closed
 abbrev pub LongAt : ℕ → List ℕ → Option ℕ → Type 0
-LongAt n text size = (m : Option ℕ) × FirstClosing n (drop (n + 2) text) m × (size ≡ option_map (λ m. n + 2 + m + (n + 2)) m)
+LongAt n text size =
+    (m : Option ℕ) × FirstClosing n (drop (n + 2) text) m × (size ≡ option_map (λ m. n + 2 + m + (n + 2)) m)

@@ -1,4 +1,4 @@
--- The spellings of tokens, each in front of what follows it, and the longest one at a place (Lua 5.1 manual, section 2.1).
+-- The spellings of tokens, each in front of what follows it, and the longest one at a place (Lua 5.1 manual §2.1).
 use Rattle.std.specs.Prelude.{◌≡◌, ◌≢◌, ℕ, ◌≤◌, true, List, ◌∷◌, ◌++◌, length, Some, ◌==◌, ◌||◌, ◌⊎◌}
 use Rattle.std.specs.List.{AllByRecursion}
 use Rattle.lua_value.specs.Num.{IsNum}
@@ -33,4 +33,5 @@ Spells kind text after = text ≡ spelling kind
 -- it is one, and no longer spelling of any kind stands at its place
 pub record IsLongestSpelling (kind : Kind) (text after : List ℕ) : Type 0 where
   pub spelled : Spells kind text after
-  pub longest : (other : Kind) (longer rest : List ℕ) → Spells other longer rest → longer ++ rest ≡ text ++ after → length longer ≤ length text
+  pub longest : (other : Kind) (longer rest : List ℕ) → Spells other longer rest → longer ++ rest ≡ text ++ after
+      → length longer ≤ length text

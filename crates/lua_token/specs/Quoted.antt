@@ -1,8 +1,10 @@
--- Quoted strings (Lua 5.1 manual, section 2.1), one character after the other. 92 is the backslash, 10 the newline and
+-- Quoted strings (Lua 5.1 manual §2.1), one character after the other. 92 is the backslash, 10 the newline and
 -- 13 the return.
-use Rattle.std.specs.Prelude.{◌≡◌, ℕ, ◌+◌, ◌-◌, ◌*◌, ◌<◌, ◌≤◌, List, [], ◌∷◌, drop, take, length, min, fold, ◌==◌, ◌&&◌, nat_le, if◌then◌else◌}
+use Rattle.std.specs.Prelude.{◌≡◌, ℕ, ◌+◌, ◌<◌, ◌≤◌, List, [], ◌∷◌, drop, take, length, min, ◌==◌, ◌&&◌, nat_le, if◌then◌else◌}
 use Rattle.std.specs.List.{prefix_len}
-use Rattle.lua_token.specs.Bytes.{is_digit, is_of, first_is}
+use Rattle.std.specs.Char.{is_ascii_digit}
+use Rattle.std.specs.Str.Parse.{digits_value}
+use Rattle.lua_token.specs.Bytes.{is_of, first_is}
 use Rattle.lua_token.specs.declared.bytes.Class.TheVariants.{Digit}
 use Rattle.lua_token.specs.declared.quoted.Character.{Character}
 use Rattle.lua_token.specs.declared.quoted.Character.TheVariants.{Byte, Closing, Unfinished, TooLarge}
@@ -19,10 +21,6 @@ escaped b =
     else (if b == 118 then 11
     else b))))))
 
--- the number that decimal digits spell
-abbrev pub decimal_value : List ℕ → ℕ
-decimal_value digits = fold (λ n d. 10 * n + (d - 48)) 0 digits
-
 -- the digits of a decimal escape: one to three, as many as there are
 abbrev pub escape_digits : List ℕ → List ℕ
 escape_digits text = take (min 3 (prefix_len (is_of Digit) text)) text
@@ -30,13 +28,13 @@ escape_digits text = take (min 3 (prefix_len (is_of Digit) text)) text
 -- a decimal escape with these digits: a byte, or a number over 255
 abbrev pub decimal_escape : List ℕ → Character
 decimal_escape digits =
-    if nat_le (decimal_value digits) 255 then Byte (decimal_value digits) (1 + length digits) else TooLarge
+    if nat_le (digits_value 10 digits) 255 then Byte (digits_value 10 digits) (1 + length digits) else TooLarge
 
 -- an escape, of which this text stands behind the backslash
 unfoldable pub escape_at : List ℕ → Character
 escape_at [] = Unfinished
 escape_at (b ∷ text) =
-    if is_digit b then decimal_escape (escape_digits (b ∷ text))
+    if is_ascii_digit b then decimal_escape (escape_digits (b ∷ text))
     else (if b == 13 && first_is (λ c. c == 10) text then Byte 10 3
     else Byte (escaped b) 2)
 
@@ -59,4 +57,5 @@ Takes TooLarge limit = Unit {0}
 -- whole characters stand for these bytes, from a text on up to the rest of it
 pub data Characters (quote : ℕ) : List ℕ → List ℕ → List ℕ → Type 0 where
   nothing : {text : List ℕ} → Characters quote text [] text
-  then_more : {text bytes rest : List ℕ} {b n : ℕ} → character_at quote text ≡ Byte b n → Characters quote (drop n text) bytes rest → Characters quote text (b ∷ bytes) rest
+  then_more : {text bytes rest : List ℕ} {b n : ℕ} → character_at quote text ≡ Byte b n
+      → Characters quote (drop n text) bytes rest → Characters quote text (b ∷ bytes) rest

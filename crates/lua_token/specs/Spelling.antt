@@ -1,4 +1,4 @@
--- Keywords and symbols, and the one spelling of each (Lua 5.1 manual, section 2.1).
+-- Keywords and symbols, and the one spelling of each (Lua 5.1 manual §2.1).
 use Rattle.std.specs.Prelude.{ℕ, List, [], ◌∷◌, codes, Option, nat_eq, find, unwrap_or}
 use Rattle.std.specs.List.{starts_with}
 use Rattle.std.specs.Cmp.Lexicographic.{pointwise}
@@ -60,11 +60,16 @@ spelling Str = []
 
 -- the keywords
 abbrev pub keywords : List Kind
-keywords = And ∷ Break ∷ Do ∷ Else ∷ ElseIf ∷ End ∷ False ∷ For ∷ Function ∷ If ∷ In ∷ Local ∷ Nil ∷ Not ∷ Or ∷ Repeat ∷ Return ∷ Then ∷ True ∷ Until ∷ While ∷ []
+keywords =
+    And ∷ Break ∷ Do ∷ Else ∷ ElseIf ∷ End ∷ False ∷ For ∷ Function ∷ If ∷ In ∷ Local ∷ Nil ∷ Not ∷ Or ∷ Repeat
+    ∷ Return ∷ Then ∷ True ∷ Until ∷ While ∷ []
 
 -- the symbols, longer ones first
 abbrev pub symbols : List Kind
-symbols = Dots ∷ Equal ∷ NotEqual ∷ LessEqual ∷ GreaterEqual ∷ Concat ∷ Plus ∷ Minus ∷ Star ∷ Slash ∷ Percent ∷ Caret ∷ Hash ∷ Less ∷ Greater ∷ Assign ∷ OpenParen ∷ CloseParen ∷ OpenBrace ∷ CloseBrace ∷ OpenBracket ∷ CloseBracket ∷ Semicolon ∷ Colon ∷ Comma ∷ Dot ∷ []
+symbols =
+    Dots ∷ Equal ∷ NotEqual ∷ LessEqual ∷ GreaterEqual ∷ Concat ∷ Plus ∷ Minus ∷ Star ∷ Slash ∷ Percent ∷ Caret
+    ∷ Hash ∷ Less ∷ Greater ∷ Assign ∷ OpenParen ∷ CloseParen ∷ OpenBrace ∷ CloseBrace ∷ OpenBracket
+    ∷ CloseBracket ∷ Semicolon ∷ Colon ∷ Comma ∷ Dot ∷ []
 
 -- the keyword that is spelled so
 unfoldable pub keyword_of : List ℕ → Option Kind

@@ -30,11 +30,14 @@ long_bytes body = without_newline (plain_lines body)
 
 -- the text begins with a quoted string of these bytes
 abbrev pub QuotedBytes : List ℕ → List ℕ → Type 0
-QuotedBytes text bytes = (rest : List ℕ) × Characters (slice_index text 0) (drop 1 text) bytes rest × (character_at (slice_index text 0) rest ≡ Closing)
+QuotedBytes text bytes =
+    (rest : List ℕ) × Characters (slice_index text 0) (drop 1 text) bytes rest
+    × (character_at (slice_index text 0) rest ≡ Closing)
 
 -- the text begins with a long string of this level and of these bytes
 abbrev pub LongBytes : ℕ → List ℕ → List ℕ → Type 0
-LongBytes n text bytes = (m : ℕ) × FirstClosing n (drop (n + 2) text) (Some m) × (bytes ≡ long_bytes (take m (drop (n + 2) text)))
+LongBytes n text bytes =
+    (m : ℕ) × FirstClosing n (drop (n + 2) text) (Some m) × (bytes ≡ long_bytes (take m (drop (n + 2) text)))
 
 -- the text, which begins so, begins with a string of these bytes
 abbrev pub StringBytes : Start → List ℕ → List ℕ → Type 0

@@ -1,10 +1,11 @@
 ghost use Rattle.std.specs.Prelude.{◌≡◌, ◌≤◌, length};
 ghost use Rattle.std.specs.List.{prefix_len};
-ghost use Rattle.lua_token.specs.Bytes.{is_blank, is_letter, is_digit, is_of};
+ghost use Rattle.lua_value.specs.NumberText.{is_blank};
+ghost use Rattle.lua_token.specs.Bytes.{is_letter, is_of};
 
 // The classes of bytes of which longest runs are taken.
 #[derive(Clone, Copy, Debug, PartialEq, Eq)]
-pub enum Class {
+pub(crate) enum Class {
     InName,
     Digit,
     DigitOrDot,
@@ -12,32 +13,29 @@ pub enum Class {
     InLine,
 }
 
-pub fn is_blank(b: u8) -> bool
+// Space, tab, newline, vertical tab, form feed or return.
+pub(crate) fn is_blank(b: u8) -> bool
     ensures { result ≡ is_blank b }
 {
     b == b' ' || b'\t' <= b && b <= b'\r'
 }
 
-pub fn is_digit(b: u8) -> bool
-    ensures { result ≡ is_digit b }
-{
-    b'0' <= b && b <= b'9'
-}
-
-pub fn is_letter(b: u8) -> bool
+// An ASCII letter or an underscore.
+pub(crate) fn is_letter(b: u8) -> bool
     ensures { result ≡ is_letter b }
 {
     b'A' <= b && b <= b'Z' || b'a' <= b && b <= b'z' || b == b'_'
 }
 
 impl Class {
-    pub fn has(self, b: u8) -> bool
+    // Whether a byte is of the class.
+    fn has(self, b: u8) -> bool
         ensures { result ≡ is_of self b }
     {
         match self {
-            Class::InName => is_letter(b) || is_digit(b),
-            Class::Digit => is_digit(b),
-            Class::DigitOrDot => is_digit(b) || b == b'.',
+            Class::InName => is_letter(b) || b.is_ascii_digit(),
+            Class::Digit => b.is_ascii_digit(),
+            Class::DigitOrDot => b.is_ascii_digit() || b == b'.',
             Class::Equals => b == b'=',
             Class::InLine => b != b'\n',
         }
@@ -45,7 +43,7 @@ impl Class {
 }
 
 // How many bytes at the front are of the class.
-pub fn run_length(bytes: &[u8], class: Class) -> usize
+pub(crate) fn run_length(bytes: &[u8], class: Class) -> usize
     ensures value { result ≡ prefix_len (is_of class) bytes.now }
     ensures fits { result ≤ length bytes.now }
 {

@@ -21,7 +21,7 @@ pub enum LexWhat {
     /// The source has over 16,777,216 bytes.
     TooLong = 7,
     /// Want of memory.
-    Memory = 8,
+    Memory,
 }
 
 /// The first fault of a source.
@@ -29,6 +29,7 @@ pub enum LexWhat {
 pub struct LexFault {
     /// The line on which the faulty token or comment begins, from 1 on; 0 for want of memory.
     pub line: u32,
+    /// What is wrong.
     pub what: LexWhat,
 }
 

@@ -8,26 +8,47 @@ use lua_value::Num;
 /// What a token is (Lua 5.1 manual §2.1): a keyword, a symbol, or a name, a number or a string.
 #[derive(Clone, Copy, Debug, PartialEq, Eq)]
 pub enum Kind {
+    /// `and`
     And,
+    /// `break`
     Break,
+    /// `do`
     Do,
+    /// `else`
     Else,
+    /// `elseif`
     ElseIf,
+    /// `end`
     End,
+    /// `false`
     False,
+    /// `for`
     For,
+    /// `function`
     Function,
+    /// `if`
     If,
+    /// `in`
     In,
+    /// `local`
     Local,
+    /// `nil`
     Nil,
+    /// `not`
     Not,
+    /// `or`
     Or,
+    /// `repeat`
     Repeat,
+    /// `return`
     Return,
+    /// `then`
     Then,
+    /// `true`
     True,
+    /// `until`
     Until,
+    /// `while`
     While,
     /// `+`
     Plus,

@@ -1,4 +1,4 @@
-//! What holds of the definitions: functions that do nothing, and whose contracts are the laws.
+//! Laws of the definitions, each the contract of a function that does nothing.
 
 ghost use Rattle.std.specs.Prelude.{◌≡◌, ◌+◌, ℕ, List, take, drop};
 ghost use Rattle.lua_token.specs.Cuts.{Cuts, Faults, StandsIn};
@@ -19,16 +19,20 @@ pub fn one_fault()
 
 /// A source that has a fault is cut into no list of tokens.
 pub fn list_or_fault()
-    ensures { (source : List ℕ) (ts : List Token) (fault : LexFault) → Cuts source ts → Faults source fault → ⊥ }
+    ensures { (source : List ℕ) (ts : List Token) (fault : LexFault) → Cuts source ts →
+        Faults source fault → ⊥ }
 {}
 
 /// A string's token stands for one list of bytes.
 pub fn one_value()
-    ensures { (source : List ℕ) (t : Token) (a b : List ℕ) → HasValue source t a → HasValue source t b → a ≡ b }
+    ensures { (source : List ℕ) (t : Token) (a b : List ℕ) → HasValue source t a →
+        HasValue source t b → a ≡ b }
 {}
 
 /// A token is a spelling of its kind, and no longer spelling stands at its place.
 pub fn longest()
     ensures { (source : List ℕ) (t : Token) → StandsIn source t →
-        IsLongestSpelling t.kind (take t.length (drop t.start source)) (drop (t.start + t.length) source) }
+        IsLongestSpelling t.kind
+        (take t.length (drop t.start source))
+        (drop (t.start + t.length) source) }
 {}

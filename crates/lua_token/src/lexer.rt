@@ -1,7 +1,7 @@
 ghost use Rattle.std.specs.Prelude.{◌≡◌, ◌<◌, ◌≤◌, ◌^◌, ◌⊎◌, ◌++◌, ◌==◌, length, count_by, IfOk, IfErr, OnOk, OnErr, Ok, Err, Result, List, All};
 ghost use Rattle.lua_token.specs.Cuts.{StandsIn, tokens_of};
 ghost use Rattle.lua_token.specs.Place.{step_length};
-ghost use Rattle.lua_token.specs.Answer.{IsAnswer, Gives, no_memory};
+ghost use Rattle.lua_token.specs.Answer.{IsTokensAnswer, Gives, no_memory};
 ghost use Rattle.lua_token.specs.declared.fault.LexFault.{LexFault as Fault};
 ghost use Rattle.lua_token.specs.declared.token.Token.{Token as Piece};
 
@@ -25,7 +25,8 @@ fn put(tokens: &mut Vec<Token>, step: &Step, start: usize, line: usize) -> Resul
     requires start { start < 2 ^ 32 }
     requires length { step_length step.now < 2 ^ 32 }
     requires line { line < 2 ^ 32 }
-    ensures ok { OnOk result (tokens.new.items ≡ tokens.old.items ++ tokens_of step.now start line) }
+    ensures ok { OnOk result
+        (tokens.new.items ≡ tokens.old.items ++ tokens_of step.now start line) }
     ensures err { IfErr result (λ fault. fault ≡ no_memory) }
 {
     if let Step::Found(kind, length) = step {
@@ -39,21 +40,24 @@ fn put(tokens: &mut Vec<Token>, step: &Step, start: usize, line: usize) -> Resul
     Ok(())
 }
 
-/// The tokens of a source (Lua 5.1 manual §2.1), in order. Places are offsets in bytes, from 0 on, and lines count from
-/// 1.
+/// The tokens of a source (Lua 5.1 manual §2.1), in order. Places are offsets in bytes, from 0 on,
+/// and lines count from 1.
 ///
 /// Takes time in proportion to the source, whatever it holds, and room for its tokens.
 ///
 /// # Errors
 ///
-/// The first fault of the source: that of the first place that is no blank, comment or token, with the line of that
-/// place. A source of over 16,777,216 bytes is too long, which is tested first.
+/// The first fault of the source: that of the first place that is no blank, comment or token, with
+/// the line of that place. A source of over 16,777,216 bytes is [`LexWhat::TooLong`] with line 1,
+/// which is tested first. [`LexWhat::Memory`] with line 0 where there is no room for the tokens.
 pub fn tokens(alloc: Global, source: &[u8]) -> Result<Vec<Token>, LexFault>
-    ensures found { IfOk result (λ tokens. IsAnswer source.now (Ok tokens.items)) }
-    ensures fault { IfErr result (λ fault. (fault ≡ no_memory) ⊎ IsAnswer source.now (Err fault)) }
+    ensures found { IfOk result (λ tokens. IsTokensAnswer source.now (Ok tokens.items)) }
+    ensures fault { IfErr result (λ fault.
+        (fault ≡ no_memory) ⊎ IsTokensAnswer source.now (Err fault)) }
 
     // What is an answer is given, unless memory runs out.
-    ensures only { (answer : Result (List Piece) Fault) → IsAnswer source.now answer → Gives result answer }
+    ensures only { (answer : Result (List Piece) Fault) → IsTokensAnswer source.now answer →
+        Gives result answer }
 
     // Each token stands where it says.
     ensures each { IfOk result (λ tokens. All (StandsIn source.now) tokens.items) }
@@ -63,8 +67,9 @@ pub fn tokens(alloc: Global, source: &[u8]) -> Result<Vec<Token>, LexFault>
 
 // The answer, token by token.
 fn cut(alloc: Global, source: &[u8]) -> Result<Vec<Token>, LexFault>
-    ensures found { IfOk result (λ tokens. IsAnswer source.now (Ok tokens.items)) }
-    ensures fault { IfErr result (λ fault. (fault ≡ no_memory) ⊎ IsAnswer source.now (Err fault)) }
+    ensures found { IfOk result (λ tokens. IsTokensAnswer source.now (Ok tokens.items)) }
+    ensures fault { IfErr result (λ fault.
+        (fault ≡ no_memory) ⊎ IsTokensAnswer source.now (Err fault)) }
 {
     if source.len() > MAX_LENGTH {
         return Err(LexFault {

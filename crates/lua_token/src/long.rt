@@ -5,7 +5,7 @@ use crate::bytes::{Class, run_length};
 
 // The level of the long bracket at the front.
 #[tactic(auto, unfolding(crate::specs::Long::level))]
-pub fn level(text: &[u8], bracket: u8) -> Option<usize>
+pub(crate) fn level(text: &[u8], bracket: u8) -> Option<usize>
     ensures value { result ≡ level bracket text.now }
     ensures fits { IfSome result (λ n. n + 2 ≤ length text.now) }
 {
@@ -23,7 +23,7 @@ pub fn level(text: &[u8], bracket: u8) -> Option<usize>
 }
 
 // How many bytes stand before the first closing bracket of the level.
-pub fn first_closing(body: &[u8], wanted: usize) -> Option<usize>
+fn first_closing(body: &[u8], wanted: usize) -> Option<usize>
     ensures value { FirstClosing wanted body.now result }
     ensures fits { IfSome result (λ m. m + wanted + 2 ≤ length body.now) }
 {
@@ -37,7 +37,7 @@ pub fn first_closing(body: &[u8], wanted: usize) -> Option<usize>
 
 // The length of the long string that opens at the front with this level, brackets included; `None`
 // where it is never closed.
-pub fn long_length(text: &[u8], opened: usize) -> Option<usize>
+pub(crate) fn long_length(text: &[u8], opened: usize) -> Option<usize>
     requires { opened + 2 ≤ length text.now }
     ensures value { LongAt opened text.now result }
     ensures fits { IfSome result (λ n. (0 < n) × (n ≤ length text.now)) }

@@ -18,7 +18,7 @@ fn mark_length(text: &[u8]) -> usize
 
 // The length of the run that is read as one number.
 #[tactic(auto, unfolding(crate::specs::Run::number_length))]
-pub fn number_length(text: &[u8]) -> usize
+pub(crate) fn number_length(text: &[u8]) -> usize
     ensures value { result ≡ number_length text.now }
     ensures fits { result ≤ length text.now }
 {

@@ -1,18 +1,22 @@
-ghost use Rattle.std.specs.Prelude.{◌≡◌, ◌≤◌, ◌<◌, ◌+◌, length, All, true};
-ghost use Rattle.lua_token.specs.Bytes.{is_digit};
-ghost use Rattle.lua_token.specs.Quoted.{escaped, decimal_value, decimal_escape, escape_at, character_at, Takes};
+ghost use Rattle.std.specs.Prelude.{◌≡◌, ◌≤◌, ◌<◌, ◌+◌, length};
+ghost use Rattle.std.specs.Char.{is_ascii_digit};
+ghost use Rattle.std.specs.List.{AllPass};
+ghost use Rattle.std.specs.Str.Parse.{digits_value};
+ghost use Rattle.lua_token.specs.Quoted.{escaped, decimal_escape, escape_at, character_at, Takes};
 
-use crate::bytes::{Class, is_digit, run_length};
+use crate::bytes::{Class, run_length};
 
-// What stands at a place inside a quoted string: a byte, and how many bytes of the source stand for it.
+// What stands at a place inside a quoted string: a byte, and how many bytes of the source stand for
+// it.
 #[derive(Clone, Copy, Debug, PartialEq, Eq)]
-pub enum Character {
+pub(crate) enum Character {
     Byte(u8, usize),
     Closing,
     Unfinished,
     TooLarge,
 }
 
+// What a byte behind a backslash stands for.
 #[tactic(auto, unfolding(crate::specs::Quoted::escaped))]
 fn escaped(b: u8) -> u8
     ensures { result ≡ escaped b }
@@ -32,8 +36,8 @@ fn escaped(b: u8) -> u8
 // The number that decimal digits spell.
 fn decimal_value(digits: &[u8]) -> u32
     requires few { length digits.now ≤ 3 }
-    requires decimal { All (λ d. is_digit d ≡ true) digits.now }
-    ensures { result ≡ decimal_value digits.now }
+    requires decimal { AllPass is_ascii_digit digits.now }
+    ensures { result ≡ digits_value 10 digits.now }
 {
     let mut value = 0;
     for digit in digits {
@@ -42,9 +46,10 @@ fn decimal_value(digits: &[u8]) -> u32
     value
 }
 
+// The decimal escape with these digits.
 fn decimal_escape(digits: &[u8]) -> Character
     requires few { length digits.now ≤ 3 }
-    requires decimal { All (λ d. is_digit d ≡ true) digits.now }
+    requires decimal { AllPass is_ascii_digit digits.now }
     ensures { result ≡ decimal_escape digits.now }
 {
     match u8::try_from(decimal_value(digits)) {
@@ -61,7 +66,7 @@ fn escape_at(text: &[u8]) -> Character
 {
     match text {
         [] => Character::Unfinished,
-        [first, ..] if is_digit(*first) => {
+        [first, ..] if first.is_ascii_digit() => {
             let count = run_length(text, Class::Digit).min(3);
             decimal_escape(&text[..count])
         }
@@ -72,7 +77,7 @@ fn escape_at(text: &[u8]) -> Character
 
 // The character at the front of a text inside these quotes.
 #[tactic(auto, unfolding(crate::specs::Quoted::character_at))]
-pub fn character_at(quote: u8, text: &[u8]) -> Character
+pub(crate) fn character_at(quote: u8, text: &[u8]) -> Character
     ensures value { result ≡ character_at quote text.now }
     ensures fits { Takes result (length text.now) }
 {

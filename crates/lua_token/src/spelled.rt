@@ -67,7 +67,7 @@ fn keyword_of(word: &[u8]) -> Option<Kind>
 }
 
 // The kind of a word.
-pub fn word_kind(word: &[u8]) -> Kind
+pub(crate) fn word_kind(word: &[u8]) -> Kind
     ensures { result ≡ word_kind word.now }
 {
     keyword_of(word).unwrap_or(Kind::Name)
@@ -75,7 +75,7 @@ pub fn word_kind(word: &[u8]) -> Kind
 
 // The longest symbol at the front.
 #[tactic(auto, unfolding(crate::specs::Spelling::symbol_at))]
-pub fn symbol_at(bytes: &[u8]) -> Option<Kind>
+pub(crate) fn symbol_at(bytes: &[u8]) -> Option<Kind>
     ensures { result ≡ symbol_at bytes.now }
 {
     SYMBOLS.iter().copied().find(|kind| kind.begins(bytes))

@@ -1,12 +1,12 @@
 ghost use Rattle.std.specs.Prelude.{◌≡◌, length};
 ghost use Rattle.lua_token.specs.Place.{begins, Opens};
 
-use crate::bytes::{is_blank, is_digit, is_letter};
+use crate::bytes::{is_blank, is_letter};
 use crate::long::level;
 
 // What begins at a place.
 #[derive(Clone, Copy, Debug, PartialEq, Eq)]
-pub enum Start {
+pub(crate) enum Start {
     Nothing,
     Blank,
     Word,
@@ -17,8 +17,9 @@ pub enum Start {
     Symbol,
 }
 
+// What begins at the front.
 #[tactic(auto, unfolding(crate::specs::Place::begins))]
-pub fn start_of(text: &[u8]) -> Start
+pub(crate) fn start_of(text: &[u8]) -> Start
     ensures value { result ≡ begins text.now }
     ensures opens { Opens result (length text.now) }
 {
@@ -26,8 +27,8 @@ pub fn start_of(text: &[u8]) -> Start
         [] => Start::Nothing,
         [b, ..] if is_blank(*b) => Start::Blank,
         [b, ..] if is_letter(*b) => Start::Word,
-        [b, ..] if is_digit(*b) => Start::Digits,
-        [b'.', b, ..] if is_digit(*b) => Start::Digits,
+        [b, ..] if b.is_ascii_digit() => Start::Digits,
+        [b'.', b, ..] if b.is_ascii_digit() => Start::Digits,
         [b'\"' | b'\'', ..] => Start::Quote,
         [b'-', b'-', ..] => Start::Comment,
         _ => match level(text, b'[') {

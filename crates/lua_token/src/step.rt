@@ -18,14 +18,14 @@ use lua_value::{Num, NumeralFault};
 
 // What stands at a place: bytes to pass over, or a token of so many bytes.
 #[derive(Clone, Copy, Debug, PartialEq, Eq)]
-pub enum Step {
+pub(crate) enum Step {
     Skip(usize),
     Found(Kind, usize),
 }
 
 impl Step {
     // How far it goes.
-    pub fn length(&self) -> usize
+    pub(crate) fn length(&self) -> usize
         ensures { result ≡ step_length self.now }
     {
         match self {
@@ -119,7 +119,7 @@ fn symbol(text: &[u8]) -> Result<Step, LexWhat>
 }
 
 // What stands at the front of a text that isn't empty.
-pub fn step_at(text: &[u8]) -> Result<Step, LexWhat>
+pub(crate) fn step_at(text: &[u8]) -> Result<Step, LexWhat>
     requires { 0 < length text.now }
     ensures value { StandsAt text.now result }
     ensures fits { IfOk result (λ step. Advances step (length text.now)) }

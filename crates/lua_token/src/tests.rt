@@ -3,7 +3,8 @@ use love_base::Text;
 use std::alloc::Global;
 use std::test::*;
 
-// Sources and their tokens, each as its kind or its number, its first byte, its length and its line.
+// Sources and their tokens, each as its kind or its number, its first byte, its length and its
+// line.
 const PLACES: [(&[u8], &str); 26] = [
     (b"a=0x1F --c", "Name@0+1:1 Assign@1+1:1 31@2+4:1 "),
     (b"", ""),
@@ -268,9 +269,9 @@ fn kinds(rt: HostRuntime) {
     assert_eq!(rt; Kind::While.spelling(), b"while".as_slice());
     assert_eq!(rt; Kind::Dots.spelling(), b"...".as_slice());
     assert_eq!(rt; Kind::Name.spelling(), b"".as_slice());
-    one_list();
-    one_fault();
-    list_or_fault();
-    one_value();
-    longest();
+    laws::one_list();
+    laws::one_fault();
+    laws::list_or_fault();
+    laws::one_value();
+    laws::longest();
 }

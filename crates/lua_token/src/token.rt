@@ -3,6 +3,7 @@ use crate::Kind;
 /// A token of a source: what it is, and where it stands.
 #[derive(Clone, Copy, Debug, PartialEq, Eq)]
 pub struct Token {
+    /// Which token it is.
     pub kind: Kind,
     /// How many bytes stand before it.
     pub start: u32,

@@ -81,8 +81,8 @@ fn value_at(alloc: Global, text: &[u8], size: usize) -> Result<Vec<u8>, Memory>
 }
 
 /// The bytes of a string of the source: those between its quotes, each escape as the byte that it
-/// stands for, or those between its long brackets, without a newline right behind the opening and with
-/// a newline for each return that a newline follows (Lua 5.1 manual §2.1).
+/// stands for, or those between its long brackets, without a newline right behind the opening and
+/// with a newline for each return that a newline follows (Lua 5.1 manual §2.1).
 ///
 /// Takes time in proportion to the token's length.
 ///

@@ -4,7 +4,7 @@ use Rattle.std.proofs.Math.Nat.{one-le-pow, eq_of_mul-eq-mul_right, pow-le-pow_r
 use Rattle.std.proofs.lemmas.Int.Digits.{digits_value-lt}
 use Rattle.std.specs.Str.Parse.{AllDigits, digits_value}
 use Rattle.lua_value.specs.Num.{IsNum}
-use Rattle.lua_value.specs.Numeral.{Numeral, Exponent, fraction_digits, exponent_text, exponent_value, lowering, numeral_text, IsWellFormed, HasValue, IsNumeral, Denotes, IsAnswer}
+use Rattle.lua_value.specs.Numeral.{Numeral, Exponent, fraction_digits, exponent_text, exponent_value, lowering, numeral_text, IsWellFormed, HasValue, IsNumeral, Denotes, IsNumeralAnswer}
 use Rattle.lua_value.specs.Numeral.Numeral.{hexadecimal, decimal}
 use Rattle.lua_value.specs.declared.numeral.NumeralFault.{NumeralFault}
 use Rattle.lua_value.specs.declared.numeral.NumeralFault.TheVariants.{Malformed, NotWhole}
@@ -41,21 +41,21 @@ Denotes-unique text y z (s, s_formed, s_text, s_value) (t, t_formed, t_text, t_v
 
 -- ---- one answer
 
-pub IsAnswer-ok : (text : List ℕ) (r : Result ℤ NumeralFault) → IsAnswer text r → (z : ℤ) → (r ≡ Ok z) ↔ (Denotes text z × IsNum z)
-IsAnswer-ok text (Ok y) h z = (λ e. let same : y ≡ z = cc in rw (← same) h, λ d. ap (λ v. Ok v) (Denotes-unique text y z h.0 d.0))
-IsAnswer-ok text (Err Malformed) h z = (λ e. cc, λ ((t, formed, spelled, value), num). absurd (h (t, formed, spelled)))
-IsAnswer-ok text (Err NotWhole) h z = (λ e. cc, λ d. absurd (h.1 z d.0 d.1))
+pub IsNumeralAnswer-ok : (text : List ℕ) (r : Result ℤ NumeralFault) → IsNumeralAnswer text r → (z : ℤ) → (r ≡ Ok z) ↔ (Denotes text z × IsNum z)
+IsNumeralAnswer-ok text (Ok y) h z = (λ e. let same : y ≡ z = cc in rw (← same) h, λ d. ap (λ v. Ok v) (Denotes-unique text y z h.0 d.0))
+IsNumeralAnswer-ok text (Err Malformed) h z = (λ e. cc, λ ((t, formed, spelled, value), num). absurd (h (t, formed, spelled)))
+IsNumeralAnswer-ok text (Err NotWhole) h z = (λ e. cc, λ d. absurd (h.1 z d.0 d.1))
 
-pub IsAnswer-malformed : (text : List ℕ) (r : Result ℤ NumeralFault) → IsAnswer text r → (r ≡ Err Malformed) ↔ ¬ IsNumeral text
-IsAnswer-malformed text (Ok y) ((t, formed, spelled, value), num) = (λ e. cc, λ none. absurd (none (t, formed, spelled)))
-IsAnswer-malformed text (Err Malformed) h = (λ e. h, λ none. refl)
-IsAnswer-malformed text (Err NotWhole) h = (λ e. cc, λ none. absurd (none h.0))
+pub IsNumeralAnswer-malformed : (text : List ℕ) (r : Result ℤ NumeralFault) → IsNumeralAnswer text r → (r ≡ Err Malformed) ↔ ¬ IsNumeral text
+IsNumeralAnswer-malformed text (Ok y) ((t, formed, spelled, value), num) = (λ e. cc, λ none. absurd (none (t, formed, spelled)))
+IsNumeralAnswer-malformed text (Err Malformed) h = (λ e. h, λ none. refl)
+IsNumeralAnswer-malformed text (Err NotWhole) h = (λ e. cc, λ none. absurd (none h.0))
 
-pub IsAnswer-not_whole : (text : List ℕ) (r : Result ℤ NumeralFault) → IsAnswer text r →
+pub IsNumeralAnswer-not_whole : (text : List ℕ) (r : Result ℤ NumeralFault) → IsNumeralAnswer text r →
     (r ≡ Err NotWhole) ↔ (IsNumeral text × ((z : ℤ) → Denotes text z → ¬ IsNum z))
-IsAnswer-not_whole text (Ok y) h = (λ e. cc, λ none. absurd (none.1 y h.0 h.1))
-IsAnswer-not_whole text (Err Malformed) h = (λ e. cc, λ none. absurd (h none.0))
-IsAnswer-not_whole text (Err NotWhole) h = (λ e. h, λ none. refl)
+IsNumeralAnswer-not_whole text (Ok y) h = (λ e. cc, λ none. absurd (none.1 y h.0 h.1))
+IsNumeralAnswer-not_whole text (Err Malformed) h = (λ e. cc, λ none. absurd (h none.0))
+IsNumeralAnswer-not_whole text (Err NotWhole) h = (λ e. h, λ none. refl)
 
 -- ---- digits alone
 
@@ -64,9 +64,9 @@ pub Denotes-digits : (digits : List ℕ) → 0 < length digits → AllDigits 10 
 Denotes-digits digits some all =
     (decimal digits None None, (all, tt, rw append-nil some, tt), append-nil digits, rw append-nil refl)
 
-pub IsAnswer-digits : (digits : List ℕ) (r : Result ℤ NumeralFault) → IsAnswer digits r → 0 < length digits → length digits ≤ 14 →
+pub IsNumeralAnswer-digits : (digits : List ℕ) (r : Result ℤ NumeralFault) → IsNumeralAnswer digits r → 0 < length digits → length digits ≤ 14 →
     AllDigits 10 digits → r ≡ Ok (pos (digits_value 10 digits))
-IsAnswer-digits digits r h some few all =
+IsNumeralAnswer-digits digits r h some few all =
     let below : digits_value 10 digits < 10 ^ length digits = digits_value-lt 10 digits all in
     let least : 10 ^ length digits ≤ 10 ^ 14 = pow-le-pow_right {n = 10} (omega arith) few in
-    (IsAnswer-ok digits r h (pos (digits_value 10 digits))).1 (Denotes-digits digits some all, omega arith)
+    (IsNumeralAnswer-ok digits r h (pos (digits_value 10 digits))).1 (Denotes-digits digits some all, omega arith)

@@ -5,7 +5,7 @@ use Rattle.std.specs.Str.Parse.{AllDigits}
 use Rattle.lua_value.specs.Num.{IsNum}
 use Rattle.lua_value.specs.Sign.{Sign, sign_text}
 use Rattle.lua_value.specs.Sign.Sign.{unsigned, plus, minus}
-use Rattle.lua_value.specs.Numeral.{Numeral, Exponent, fraction_digits, fraction_text, exponent_text, exponent_value, numeral_text, IsOptionalExponent, IsWellFormed, HasValue, IsScaled, IsNumeral, IsAnswer, IsHexadecimalAnswer}
+use Rattle.lua_value.specs.Numeral.{Numeral, Exponent, fraction_digits, fraction_text, exponent_text, exponent_value, numeral_text, IsOptionalExponent, IsWellFormed, HasValue, IsScaled, IsNumeral, IsNumeralAnswer, IsHexadecimalAnswer}
 use Rattle.lua_value.specs.Numeral.Numeral.{hexadecimal, decimal}
 use Rattle.lua_value.specs.Place.{BeginsWithNoDigit, EndsMantissa, HasNoSign}
 use Rattle.lua_value.specs.declared.numeral.NumeralFault.{NumeralFault}
@@ -122,7 +122,7 @@ module _ (letter : ℕ) (digits : List ℕ) (is_x : (letter ≡ 120) ⊎ (letter
 
   -- the answer for a text with `0x`
   pub hexadecimal_answer : (text : List ℕ) (r : Result ℤ NumeralFault) → text ≡ 48 ∷ (letter ∷ digits) →
-      IsHexadecimalAnswer digits r → IsAnswer text r
+      IsHexadecimalAnswer digits r → IsNumeralAnswer text r
   hexadecimal_answer text (Ok z) e answer =
       ((hexadecimal letter digits, (is_x, answer.0, answer.1), sym e, answer.2), answer.3)
   hexadecimal_answer text (Err Malformed) e answer = λ (t, formed, spelled).
@@ -162,7 +162,7 @@ module _ (text whole : List ℕ) (fraction : Option (List ℕ)) (tail : List ℕ
       0 < length (whole ++ fraction_digits fraction) → (r : Option ℤ) →
       MatchOption r ((z : ℤ) → IsScaled whole (fraction_digits fraction) (exponent_value e) z → ¬ IsNum z)
       (λ z. IsScaled whole (fraction_digits fraction) (exponent_value e) z × IsNum z) →
-      IsAnswer text (ok_or r NotWhole)
+      IsNumeralAnswer text (ok_or r NotWhole)
   decimal_answer e formed spelled some (Some z) answer =
       ((decimal whole fraction e, (whole_digits, behind_digits, some, formed), rw (parts, spelled) refl, answer.0), answer.1)
   decimal_answer e formed spelled some None answer = (

@@ -1,5 +1,5 @@
--- Numerals of Lua 5.1 (manual, section 2.1): what their texts are, and the exact value of each. Hexadecimal ones are
--- read by the reference program too; that the value is exact and never rounded is this project's own.
+-- Numerals (Lua 5.1 manual §2.1): what their texts are, and the exact value of each. Hexadecimal ones are read by the
+-- reference program too; that the value is exact and never rounded is this project's own.
 use Rattle.std.specs.Prelude.{◌≡◌, ℕ, ◌+◌, ◌*◌, ◌^◌, ◌<◌, ℤ, pos, negsuc, suc, ◌*ℤ◌, ◌⊎◌, List, [], ◌∷◌, ◌++◌, length, codes, Option, Some, None, Result, Ok, Err, MatchOption, ⊤}
 use Rattle.std.specs.Str.Parse.{AllDigits, digits_value}
 use Rattle.lua_value.specs.Num.{IsNum}
@@ -77,7 +77,8 @@ lowering (pos k) = 0
 lowering (negsuc k) = suc k
 
 -- z is the number that the digits before and behind a point write, times ten to the exponent e: all digits together,
--- times the power of ten that e raises by, are z times ten for each digit behind the point and for each that e lowers by
+-- times the power of ten that e raises by, are z times ten for each digit behind the point and for each that e lowers
+-- by
 abbrev pub IsScaled : List ℕ → List ℕ → ℤ → ℤ → Type 0
 IsScaled whole fraction e z =
     z *ℤ pos (10 ^ (length fraction + lowering e)) ≡ pos (digits_value 10 (whole ++ fraction) * 10 ^ raising e)
@@ -99,10 +100,10 @@ abbrev pub Denotes : List ℕ → ℤ → Type 0
 Denotes text z = (t : Numeral) × IsWellFormed t × (numeral_text t ≡ text) × HasValue t z
 
 -- the answer for a text: the Num that it denotes; or why there is none
-abbrev pub IsAnswer : List ℕ → Result ℤ NumeralFault → Type 0
-IsAnswer text (Ok z) = Denotes text z × IsNum z
-IsAnswer text (Err Malformed) = ¬ IsNumeral text
-IsAnswer text (Err NotWhole) = IsNumeral text × ((z : ℤ) → Denotes text z → ¬ IsNum z)
+abbrev pub IsNumeralAnswer : List ℕ → Result ℤ NumeralFault → Type 0
+IsNumeralAnswer text (Ok z) = Denotes text z × IsNum z
+IsNumeralAnswer text (Err Malformed) = ¬ IsNumeral text
+IsNumeralAnswer text (Err NotWhole) = IsNumeral text × ((z : ℤ) → Denotes text z → ¬ IsNum z)
 
 -- the same for the digits behind `0x`
 abbrev pub IsHexadecimalAnswer : List ℕ → Result ℤ NumeralFault → Type 0

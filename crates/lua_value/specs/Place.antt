@@ -35,7 +35,7 @@ IsWordOf text word =
     (before : List ℕ) × (after : List ℕ) × AllPass is_blank before × AllPass is_blank after
     × AllPass is_no_blank word × FailsAtFirst is_blank (word ++ after) × (text ≡ before ++ (word ++ after))
 
--- how many digits stand before the point once the exponent e has moved it, behind as many before it was moved: none where
--- it moves past the first one, and never more than the greatest word
+-- how many digits stand before the point once the exponent e has moved it, behind as many before it was moved: none
+-- where it moves past the first one, and never more than the greatest word
 abbrev pub moved_point : ℕ → ℤ → ℕ
 moved_point whole e = min (whole + raising e - lowering e) (2 ^ 64 - 1)

@@ -1,4 +1,4 @@
-//! Arithmetic (Lua 5.1 manual, section 2.5.1), exact or refused.
+//! Arithmetic (Lua 5.1 manual §2.5.1), exact or refused.
 
 ghost use Rattle.std.specs.Prelude.{◌≡◌, neg_ℤ};
 
@@ -25,7 +25,7 @@ impl Num {
     ///
     /// # Errors
     ///
-    /// `OutOfRange` where it lies outside the range, here and for a difference, a product and a power.
+    /// [`NumFault::OutOfRange`] where it lies outside the range.
     pub fn add(self, other: Num) -> Result<Num, NumFault>
         ensures { result ≡ add self other }
     {
@@ -33,6 +33,10 @@ impl Num {
     }
 
     /// The difference.
+    ///
+    /// # Errors
+    ///
+    /// [`NumFault::OutOfRange`] where it lies outside the range.
     pub fn sub(self, other: Num) -> Result<Num, NumFault>
         ensures { result ≡ sub self other }
     {
@@ -40,6 +44,10 @@ impl Num {
     }
 
     /// The product.
+    ///
+    /// # Errors
+    ///
+    /// [`NumFault::OutOfRange`] where it lies outside the range.
     pub fn mul(self, other: Num) -> Result<Num, NumFault>
         ensures { result ≡ mul self other }
     {
@@ -51,7 +59,8 @@ impl Num {
     ///
     /// # Errors
     ///
-    /// `NotWhole` where it isn't, or where the divisor is 0; Lua 5.1 gives a fraction or an infinity.
+    /// [`NumFault::NotWhole`] where it isn't, or where the divisor is 0; Lua 5.1 gives a fraction
+    /// or an infinity.
     pub fn div(self, other: Num) -> Result<Num, NumFault>
         ensures { result ≡ div self other }
     {
@@ -70,7 +79,7 @@ impl Num {
     ///
     /// # Errors
     ///
-    /// `NotWhole` where the divisor is 0.
+    /// [`NumFault::NotWhole`] where the divisor is 0.
     pub fn rem(self, other: Num) -> Result<Num, NumFault>
         ensures { result ≡ rem self other }
     {
@@ -88,7 +97,8 @@ impl Num {
     ///
     /// # Errors
     ///
-    /// `NotWhole` where the exponent is negative; Lua 5.1 gives a fraction.
+    /// [`NumFault::NotWhole`] where the exponent is negative, where Lua 5.1 gives a fraction;
+    /// [`NumFault::OutOfRange`] where the power lies outside the range.
     pub fn pow(self, other: Num) -> Result<Num, NumFault>
         ensures { result ≡ pow self other }
     {

@@ -3,16 +3,17 @@
 ghost use Rattle.std.specs.Prelude.{◌≡◌, ◌≢◌, ℤ, pos, ◌+◌, ◌*◌, ◌-◌, ◌^◌, ◌<◌, ◌++◌, ℕ, List, ◌∷◌, ◌⊎◌, take, drop, min, length, Option, MatchOption};
 ghost use Rattle.std.specs.Str.Parse.{AllDigits, digits_value, digits_value_after};
 ghost use Rattle.lua_value.specs.Num.{IsNum};
-ghost use Rattle.lua_value.specs.Numeral.{IsAnswer, IsScaled, IsOptionalExponent, Exponent, exponent_text, exponent_value, fraction_digits, fraction_text};
+ghost use Rattle.lua_value.specs.Numeral.{IsNumeralAnswer, IsScaled, IsOptionalExponent, Exponent, exponent_text, exponent_value, fraction_digits, fraction_text};
 ghost use Rattle.lua_value.specs.Place.{BeginsWithNoDigit, EndsMantissa, moved_point};
 
 use crate::digits::{after_either, digits_onto, split_digits};
 use crate::{Num, NumeralFault};
 
-/// The value of a decimal numeral. The text doesn't begin as a hexadecimal one.
+// The value of a decimal numeral. The text doesn't begin as a hexadecimal one.
 pub(crate) fn decimal(text: &[u8]) -> Result<Num, NumeralFault>
-    requires { (letter : ℕ) (digits : List ℕ) → (letter ≡ 120) ⊎ (letter ≡ 88) → text.now ≢ 48 ∷ (letter ∷ digits) }
-    ensures { IsAnswer text.now result }
+    requires { (letter : ℕ) (digits : List ℕ) → (letter ≡ 120) ⊎ (letter ≡ 88) →
+        text.now ≢ 48 ∷ (letter ∷ digits) }
+    ensures { IsNumeralAnswer text.now result }
 {
     let (whole, rest) = split_digits(text);
     let (fraction, exponent) = behind_point(rest);
@@ -25,11 +26,14 @@ pub(crate) fn decimal(text: &[u8]) -> Result<Num, NumeralFault>
     placed(whole, fraction, point).ok_or(NumeralFault::NotWhole)
 }
 
-/// The digits behind a point, none where the text doesn't begin with one, and what stands behind them.
+// The digits behind a point, none where the text doesn't begin with one, and what stands behind
+// them.
 fn behind_point(text: &[u8]) -> (&[u8], &[u8])
     requires { BeginsWithNoDigit text.now }
-    ensures { (fraction : Option (List ℕ)) × AllDigits 10 (fraction_digits fraction) × EndsMantissa fraction result.1.now
-        × (result.0.now ≡ fraction_digits fraction) × (text.now ≡ fraction_text fraction ++ result.1.now) }
+    ensures { (fraction : Option (List ℕ)) × AllDigits 10 (fraction_digits fraction)
+        × EndsMantissa fraction result.1.now
+        × (result.0.now ≡ fraction_digits fraction)
+        × (text.now ≡ fraction_text fraction ++ result.1.now) }
 {
     match after_either(text, b'.', b'.') {
         Some(behind) => split_digits(behind),
@@ -37,7 +41,8 @@ fn behind_point(text: &[u8]) -> (&[u8], &[u8])
     }
 }
 
-/// Where the point behind `whole` digits stands once the exponent has moved it, or `None` where the text is no exponent.
+// Where the point behind `whole` digits stands once the exponent has moved it, or `None` where the
+// text is no exponent.
 fn moved(whole: usize, exponent: &[u8]) -> Option<usize>
     ensures { MatchOption result
         ((e : Option Exponent) → IsOptionalExponent e → exponent_text e ≢ exponent.now)
@@ -60,7 +65,7 @@ fn moved(whole: usize, exponent: &[u8]) -> Option<usize>
     }
 }
 
-/// The number that one decimal digit or more write, at most the greatest word.
+// The number that one decimal digit or more write, at most the greatest word.
 fn size(digits: &[u8]) -> Option<usize>
     ensures { MatchOption result
         ((0 < length digits.now) → ¬ AllDigits 10 digits.now)
@@ -74,8 +79,8 @@ fn size(digits: &[u8]) -> Option<usize>
     Some(number as usize)
 }
 
-/// The number that the digits write where the first `point` of them stand before the point, or `None` where it isn't
-/// whole or out of range.
+// The number that the digits write where the first `point` of them stand before the point, or
+// `None` where it isn't whole or out of range.
 fn placed(whole: &[u8], fraction: &[u8], point: usize) -> Option<Num>
     requires whole { AllDigits 10 whole.now }
     requires fraction { AllDigits 10 fraction.now }
@@ -91,7 +96,8 @@ fn placed(whole: &[u8], fraction: &[u8], point: usize) -> Option<Num>
     with_zeros(number, behind.saturating_sub(fraction.len()))
 }
 
-/// The number that the first `count` digits write behind those of `value`, or `None` where the others aren't all 0.
+// The number that the first `count` digits write behind those of `value`, or `None` where the
+// others aren't all 0.
 fn kept(value: u64, digits: &[u8], count: usize) -> Option<u64>
     requires { AllDigits 10 digits.now }
     ensures { MatchOption result
@@ -106,7 +112,7 @@ fn kept(value: u64, digits: &[u8], count: usize) -> Option<u64>
     digits_onto(10, value, kept)
 }
 
-/// The number with as many zeros behind it, or `None` where it is out of range.
+// The number with as many zeros behind it, or `None` where it is out of range.
 pub(crate) fn with_zeros(number: u64, zeros: usize) -> Option<Num>
     ensures { MatchOption result
         (¬ IsNum (pos (number * 10 ^ zeros)))

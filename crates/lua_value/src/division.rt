@@ -4,7 +4,7 @@ ghost use Rattle.std.specs.Prelude.{◌≡◌, ◌≢◌, ◌≤◌, pos, unsign
 ghost use Rattle.lua_value.specs.Arithmetic.{floor_quotient, floor_remainder};
 ghost use Rattle.lua_value.specs.Num.{IsNum};
 
-/// The quotient rounded down, and what is left, which has the divisor's sign.
+// The quotient rounded down, and what is left, which has the divisor's sign.
 pub(crate) fn floor_division(dividend: i64, divisor: i64) -> (i64, i64)
     requires dividend { IsNum dividend }
     requires divisor { IsNum divisor }
@@ -18,7 +18,7 @@ pub(crate) fn floor_division(dividend: i64, divisor: i64) -> (i64, i64)
     (quotient, dividend - quotient * divisor)
 }
 
-/// The quotient rounded down: `div_euclid` rounds so where the divisor isn't negative.
+// The quotient rounded down: `div_euclid` rounds so where the divisor isn't negative.
 fn rounded_down(dividend: i64, divisor: i64) -> i64
     requires dividend { IsNum dividend }
     requires divisor { IsNum divisor }

@@ -9,17 +9,19 @@ use crate::decimal::with_zeros;
 use crate::digits::{after_either, digits_onto};
 use crate::{Num, NumeralFault};
 
-/// What stands behind `0x` or `0X`.
+// What stands behind `0x` or `0X`.
 pub(crate) fn hexadecimal_digits(text: &[u8]) -> Option<&[u8]>
     ensures { MatchOption result
-        ((letter : ℕ) (digits : List ℕ) → (letter ≡ 120) ⊎ (letter ≡ 88) → text.now ≢ 48 ∷ (letter ∷ digits))
-        (λ digits. (letter : ℕ) × ((letter ≡ 120) ⊎ (letter ≡ 88)) × (text.now ≡ 48 ∷ (letter ∷ digits.now))) }
+        ((letter : ℕ) (digits : List ℕ) → (letter ≡ 120) ⊎ (letter ≡ 88) →
+        text.now ≢ 48 ∷ (letter ∷ digits))
+        (λ digits. (letter : ℕ) × ((letter ≡ 120) ⊎ (letter ≡ 88))
+        × (text.now ≡ 48 ∷ (letter ∷ digits.now))) }
 {
     let letter = after_either(text, b'0', b'0')?;
     after_either(letter, b'x', b'X')
 }
 
-/// The value of the digits behind `0x`.
+// The value of the digits behind `0x`.
 pub(crate) fn hexadecimal(digits: &[u8]) -> Result<Num, NumeralFault>
     ensures { IsHexadecimalAnswer digits.now result }
 {

@@ -1,4 +1,4 @@
-//! Laws of the definitions, each proved as the contract of a function that does nothing.
+//! Laws of the definitions, each the contract of a function that does nothing.
 
 ghost use Rattle.std.specs.Prelude.{◌≡◌, ◌≢◌, ℕ, ℤ, pos, neg_ℤ, ◌+ℤ◌, ◌*ℤ◌, List};
 ghost use Rattle.lua_value.specs.Arithmetic.{add, mul, div, rem, in_range, LiesBefore};
@@ -11,13 +11,15 @@ pub fn operations_commute()
     ensures product { (a b : ℤ) → mul a b ≡ mul b a }
 {}
 
-/// There is a quotient exactly where a number times the divisor is the dividend, and it is that number.
+/// There is a quotient exactly where a number times the divisor is the dividend, and it is that
+/// number.
 pub fn quotient_divides()
     ensures value { (a b q : ℤ) → div a b ≡ Ok q → q *ℤ b ≡ a }
     ensures complete { (a b q : ℤ) → b ≢ pos 0 → q *ℤ b ≡ a → div a b ≡ in_range q }
 {}
 
-/// A remainder is what a multiple of the divisor leaves of the dividend; it has the divisor's sign and is smaller.
+/// A remainder is what a multiple of the divisor leaves of the dividend; it has the divisor's sign
+/// and is smaller.
 pub fn remainder_is_left()
     ensures parts { (a b r : ℤ) → rem a b ≡ Ok r → (q : ℤ) × (q *ℤ b +ℤ r ≡ a) }
     ensures sign { (a b r : ℤ) → rem a b ≡ Ok r → LiesBefore r b }

@@ -1,7 +1,8 @@
 //! The numbers of a program: whole numbers from -99,999,999,999,999 to 99,999,999,999,999.
 //!
-//! [`Num`] is the number; its arithmetic is exact or refused by a [`NumFault`]. [`Num::numeral`] and [`Num::read`] read
-//! one from bytes and [`Num::text`] shows it. No call of this crate takes memory.
+//! [`Num`] is the number; its arithmetic is exact or refused by a [`NumFault`]. [`Num::numeral`]
+//! and [`Num::read`] read one from bytes and [`Num::text`] shows it; [`laws`] has the laws of the
+//! definitions. No call of this crate takes memory.
 #![tactic(auto)]
 
 mod arithmetic;

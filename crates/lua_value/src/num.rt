@@ -7,13 +7,14 @@ ghost use Rattle.lua_value.specs.Num.{IsNum};
 use itoa::Buffer;
 use std::marker::Model;
 
-/// The greatest number; the least one is its negative.
+// The greatest number; the least one is its negative.
 const GREATEST: i64 = 99_999_999_999_999;
 
 /// A whole number from -99,999,999,999,999 to 99,999,999,999,999.
 ///
-/// The range is this project's own: each number prints with at most fourteen digits, as Lua 5.1 prints a whole number
-/// (manual, sections 2.2 and 2.2.1), and every operation on two of them is exact or refused.
+/// The range is this project's own: each number prints with at most fourteen digits, as Lua 5.1
+/// prints a whole number (Lua 5.1 manual §2.2, §2.2.1), and every operation on two of them is exact
+/// or refused.
 #[derive(Clone, Copy, Debug, PartialEq, Eq, PartialOrd, Ord, Hash)]
 pub struct Num {
     value: i64,
@@ -52,7 +53,8 @@ impl Num {
         self.value
     }
 
-    /// The number's decimal digits, behind `-` where it is negative, written into `buffer`: at most fifteen bytes.
+    /// The number's decimal digits, behind `-` where it is negative, written into `buffer`: at most
+    /// fifteen bytes.
     pub fn text(self, buffer: &mut Buffer) -> &str
         ensures { result.now ≡ signed_decimal self }
     {

@@ -1,4 +1,5 @@
-//! Texts that are read as numbers (Lua 5.1 manual, section 2.2.1): blanks, an optional sign, a numeral, blanks.
+//! Texts that are read as numbers (Lua 5.1 manual §2.2.1): blanks, an optional sign, a numeral,
+//! blanks.
 
 ghost use Rattle.std.specs.Prelude.{◌≡◌, ◌↔◌, ◌++◌, ℕ, ℤ, neg_ℤ, List, MatchOption, if◌then◌else◌};
 ghost use Rattle.std.specs.List.{AllPass, prefix_len};
@@ -12,10 +13,11 @@ use crate::Num;
 use crate::digits::after_either;
 
 impl Num {
-    /// The number that a text stands for: blanks, an optional sign, a numeral and blanks; `None` where the text isn't of
-    /// this form, or its value isn't a number of the range.
+    /// The number that a text stands for: blanks, an optional sign, a numeral and blanks; `None`
+    /// where the text isn't of this form, or its value isn't a number of the range.
     ///
-    /// Blanks are space, tab, newline, vertical tab, form feed and return. Takes time in proportion to the text.
+    /// Blanks are space, tab, newline, vertical tab, form feed and return. Takes time in proportion
+    /// to the text.
     pub fn read(text: &[u8]) -> Option<Num>
         ensures some { (z : ℤ) → (result ≡ Some z) ↔ (ReadsAs text.now z × IsNum z) }
         ensures none { (result ≡ None) ↔ ((z : ℤ) → ReadsAs text.now z → ¬ IsNum z) }
@@ -24,7 +26,7 @@ impl Num {
     }
 }
 
-/// The number that the word between the blanks stands for.
+// The number that the word between the blanks stands for.
 fn number(text: &[u8]) -> Option<Num>
     ensures { MatchOption result
         ((n : ℤ) → ReadsAs text.now n → ¬ IsNum n)
@@ -33,9 +35,11 @@ fn number(text: &[u8]) -> Option<Num>
     signed(word(text)?)
 }
 
-/// The word that stands in the text with nothing but blanks around it.
+// The word that stands in the text with nothing but blanks around it.
 fn word(text: &[u8]) -> Option<&[u8]>
-    ensures { MatchOption result ((w : List ℕ) → ¬ IsWordOf text.now w) (λ w. IsWordOf text.now w.now) }
+    ensures { MatchOption result
+        ((w : List ℕ) → ¬ IsWordOf text.now w)
+        (λ w. IsWordOf text.now w.now) }
 {
     let (_, text) = split_blanks(text);
     let (word, behind) = split_word(text);
@@ -43,7 +47,7 @@ fn word(text: &[u8]) -> Option<&[u8]>
     if behind.is_empty() { Some(word) } else { None }
 }
 
-/// The number that an optional sign and a numeral stand for.
+// The number that an optional sign and a numeral stand for.
 fn signed(word: &[u8]) -> Option<Num>
     ensures { MatchOption result
         ((n : ℤ) → DenotesSigned word.now n → ¬ IsNum n)
@@ -58,9 +62,10 @@ fn signed(word: &[u8]) -> Option<Num>
     }
 }
 
-/// Whether the word begins with a minus, and what stands behind its sign.
+// Whether the word begins with a minus, and what stands behind its sign.
 fn split_sign(word: &[u8]) -> (bool, &[u8])
-    ensures { (sign : Sign) × (word.now ≡ sign_text sign ++ result.1.now) × (sign ≡ unsigned → HasNoSign result.1.now)
+    ensures { (sign : Sign) × (word.now ≡ sign_text sign ++ result.1.now)
+        × (sign ≡ unsigned → HasNoSign result.1.now)
         × ((z : ℤ) → signed sign z ≡ (if result.0 then neg_ℤ z else z)) }
 {
     match after_either(word, b'-', b'-') {
@@ -69,7 +74,7 @@ fn split_sign(word: &[u8]) -> (bool, &[u8])
     }
 }
 
-/// The text cut in two behind the blanks at its front.
+// The text cut in two behind the blanks at its front.
 fn split_blanks(text: &[u8]) -> (&[u8], &[u8])
     ensures front { AllPass is_blank result.0.now }
     ensures rest { FailsAtFirst is_blank result.1.now }
@@ -79,7 +84,7 @@ fn split_blanks(text: &[u8]) -> (&[u8], &[u8])
     text.split_at(count)
 }
 
-/// The text cut in two before its first blank.
+// The text cut in two before its first blank.
 fn split_word(text: &[u8]) -> (&[u8], &[u8])
     ensures front { AllPass is_no_blank result.0.now }
     ensures rest { FailsAtFirst is_no_blank result.1.now }
@@ -89,7 +94,7 @@ fn split_word(text: &[u8]) -> (&[u8], &[u8])
     text.split_at(count)
 }
 
-/// Space, tab, newline, vertical tab, form feed or return.
+// Space, tab, newline, vertical tab, form feed or return.
 fn is_blank(byte: u8) -> bool
     ensures { result ≡ is_blank byte }
 {

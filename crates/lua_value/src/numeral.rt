@@ -1,9 +1,9 @@
-//! Numerals (Lua 5.1 manual, section 2.1): numbers read from bytes.
+//! Numerals (Lua 5.1 manual §2.1): numbers read from bytes.
 
 ghost use Rattle.std.specs.Prelude.{◌≡◌, ◌↔◌, ℕ, ℤ, pos, ◌<◌, ◌≤◌, List, length};
 ghost use Rattle.std.specs.Str.Parse.{AllDigits, digits_value};
 ghost use Rattle.lua_value.specs.Num.{IsNum};
-ghost use Rattle.lua_value.specs.Numeral.{IsNumeral, Denotes, IsAnswer};
+ghost use Rattle.lua_value.specs.Numeral.{IsNumeral, Denotes, IsNumeralAnswer};
 
 use crate::Num;
 use crate::decimal::decimal;
@@ -22,17 +22,18 @@ pub enum NumeralFault {
 }
 
 impl Num {
-    /// The exact value of a numeral: decimal digits with at most one point among them and an optional exponent, or
-    /// hexadecimal digits behind `0x` or `0X`.
+    /// The exact value of a numeral: decimal digits with at most one point among them and an
+    /// optional exponent, or hexadecimal digits behind `0x` or `0X`.
     ///
     /// Takes time in proportion to the text, whatever the exponent says.
     ///
     /// # Errors
     ///
-    /// `Malformed` where the text is no numeral, and `NotWhole` where it is one whose exact value isn't whole or lies
-    /// outside the range; the reference program of Lua 5.1 would round such a value.
+    /// [`NumeralFault::Malformed`] where the text is no numeral, and [`NumeralFault::NotWhole`]
+    /// where it is one whose exact value isn't whole or lies outside the range; the reference
+    /// program of Lua 5.1 would round such a value.
     pub fn numeral(text: &[u8]) -> Result<Num, NumeralFault>
-        ensures cases { IsAnswer text.now result }
+        ensures cases { IsNumeralAnswer text.now result }
         ensures ok { (z : ℤ) → (result ≡ Ok z) ↔ (Denotes text.now z × IsNum z) }
         ensures malformed { (result ≡ Err NumeralFault.Malformed) ↔ ¬ IsNumeral text.now }
         ensures not_whole { (result ≡ Err NumeralFault.NotWhole)
@@ -46,9 +47,9 @@ impl Num {
     }
 }
 
-/// The value of a numeral, hexadecimal where it begins so.
+// The value of a numeral, hexadecimal where it begins so.
 fn value_of(text: &[u8]) -> Result<Num, NumeralFault>
-    ensures { IsAnswer text.now result }
+    ensures { IsNumeralAnswer text.now result }
 {
     match hexadecimal_digits(text) {
         Some(digits) => hexadecimal(digits),

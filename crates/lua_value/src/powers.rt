@@ -6,7 +6,7 @@ ghost use Rattle.lua_value.specs.Num.{IsNum};
 
 use crate::Num;
 
-/// The base to the exponent, or `None` where it is out of range.
+// The base to the exponent, or `None` where it is out of range.
 pub(crate) fn signed_power(base: i64, exponent: u64) -> Option<Num>
     ensures { SomeIff result (IsNum (power base exponent)) (power base exponent) }
 {
@@ -18,7 +18,7 @@ pub(crate) fn signed_power(base: i64, exponent: u64) -> Option<Num>
     }
 }
 
-/// The base to the exponent, or `None` where it is out of range.
+// The base to the exponent, or `None` where it is out of range.
 fn unsigned_power(base: u64, exponent: u64) -> Option<Num>
     ensures { SomeIff result (IsNum (pos (base ^ exponent))) (pos (base ^ exponent)) }
 {
@@ -26,8 +26,8 @@ fn unsigned_power(base: u64, exponent: u64) -> Option<Num>
     Num::new(i64::try_from(size).ok()?)
 }
 
-/// The base to the exponent, or the greatest word where the power is above it, in a step for each binary digit of the
-/// exponent.
+// The base to the exponent, or the greatest word where the power is above it, in a step for each
+// binary digit of the exponent.
 fn saturating_power(base: u64, exponent: u64) -> u64
     ensures { result ≡ min (base ^ exponent) (2 ^ 64 - 1) }
 {

@@ -13,7 +13,8 @@ use Rattle.turn_desk.specs.declared.view.Own.{Own}
 use Rattle.turn_desk.specs.declared.view.Spot.{Spot}
 use Rattle.turn_desk.specs.declared.view.Told.{Told}
 use Rattle.turn_desk.specs.declared.view.View.{View}
-use Rattle.turn_desk.specs.View.{Extends, blank, spot, own_count, number_count, joined, both}
+use Rattle.love_base.specs.Prefix.{IsPrefix}
+use Rattle.turn_desk.specs.View.{blank, spot, own_count, number_count, joined, both}
 use Rattle.turn_desk.specs.Rule.{World, Knows, Desked}
 use Rattle.turn_desk.specs.Closing.{HoldsNothing, fronts_of, gathered, placed, IsBack, Gathers}
 use Rattle.turn_desk.proofs.Lists.{sum_at, sum_alone}
@@ -31,9 +32,9 @@ module _ {E : Type 0} where
   pub record IsTrueIn (W : World E) (v : View E) : Type 0 where
     pub fixed : (o : ℕ) → o < W.objects → get_or v.fixed o 0 ≡ W.fixes o
     pub handed : (k : ℕ) (numbers : List ℕ) → get_elem? v.handed k ≡ some numbers → (o : ℕ) → o < W.objects → get_or numbers o 0 ≡ W.fixes o
-    pub prefix : (o : ℕ) → o < W.objects → Extends (spot v o).known (W.logs o)
+    pub prefix : (o : ℕ) → o < W.objects → IsPrefix (spot v o).known (W.logs o)
     pub front : (o : ℕ) → o < W.objects → (spot v o).front ≤ length (W.logs o)
-    pub told : (o : ℕ) → o < W.objects → (k : ℕ) (t : Told E) → get_elem? (spot v o).told k ≡ some t → Extends t.known (W.logs o)
+    pub told : (o : ℕ) → o < W.objects → (k : ℕ) (t : Told E) → get_elem? (spot v o).told k ≡ some t → IsPrefix t.known (W.logs o)
 
   known_true : (W : World E) (v : View E) → Knows W v → IsTrueIn W v
   known_true W v k = record { fixed = k.fixed; handed = k.handed; prefix = λ o _. k.prefix o; front = λ o _. (k.front o).1; told = λ o _. k.told o }
@@ -47,7 +48,7 @@ module _ {E : Type 0} where
     left_true = record {
       fixed = k.fixed;
       handed = λ i l e. k.handed i l (at_longer v.handed (w.fixed ∷ w.handed) i l e);
-      prefix = λ o lt. subst (λ (x : Spot E). Extends x.known (W.logs o)) (here o lt) (k.prefix o lt);
+      prefix = λ o lt. subst (λ (x : Spot E). IsPrefix x.known (W.logs o)) (here o lt) (k.prefix o lt);
       front = λ o lt. let m = le-max_left (spot v o).front (spot w o).front in let n = subst (λ (x : Spot E). x.front ≤ length (W.logs o)) (here o lt) (k.front o lt) in omega arith;
       told = λ o lt i t e. k.told o lt i t (subst (λ (x : Spot E). get_elem? x.told i ≡ some t) (sym (here o lt)) (at_longer (spot v o).told (record { seat = w.number; known = (spot w o).known } ∷ (spot w o).told) i t e));
     }
@@ -155,7 +156,7 @@ module _ {O E : Type 0} (history : O → List E) (number : O → ℕ) (summed : 
     pub object : O
     pub home : get_elem? homes o ≡ some (some (Some object))
     pub fixed : (k : ℕ) (v : View E) → get_elem? vs k ≡ some v → number object ≡ get_or v.fixed o 0
-    pub seen : (k : ℕ) (v : View E) → get_elem? vs k ≡ some v → Extends (spot v o).known (history object)
+    pub seen : (k : ℕ) (v : View E) → get_elem? vs k ≡ some v → IsPrefix (spot v o).known (history object)
     pub front : (k : ℕ) (v : View E) → get_elem? vs k ≡ some v → (spot v o).front ≤ length (history object)
     pub once : (p : ℕ) → 0 < p → p ≤ length (history object) → sum_by (own_count o p) vs ≡ 1
     pub else : (p : ℕ) → (p ≡ 0) ⊎ (length (history object) < p) → sum_by (own_count o p) vs ≡ 0
@@ -196,7 +197,7 @@ module _ {O E : Type 0} (history : O → List E) (number : O → ℕ) (summed : 
         object = h.0;
         home = h.1;
         fixed = λ k u e. h.3 ∙ sym ((true_of k u e).fixed o inside);
-        seen = λ k u e. subst (Extends (spot u o).known) (sym h.2) ((true_of k u e).prefix o inside);
+        seen = λ k u e. subst (IsPrefix (spot u o).known) (sym h.2) ((true_of k u e).prefix o inside);
         front = λ k u e. subst (λ (l : List E). (spot u o).front ≤ length l) (sym h.2) ((true_of k u e).front o inside);
         once = λ p low high. let a = own p in let b = same p in let c = ob.once p low (subst (λ (l : List E). p ≤ length l) h.2 high) in omega arith;
         else = λ p out. let a = own p in let b = same p in let c = ob.else p (subst (λ (l : List E). (p ≡ 0) ⊎ (length l < p)) h.2 out) in omega arith;

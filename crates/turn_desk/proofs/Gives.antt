@@ -11,7 +11,8 @@ use Rattle.turn_desk.specs.declared.view.Own.{Own}
 use Rattle.turn_desk.specs.declared.view.Phase.TheVariants.{Free, Taken, Published}
 use Rattle.turn_desk.specs.declared.view.Spot.{Spot}
 use Rattle.turn_desk.specs.declared.view.View.{View}
-use Rattle.turn_desk.specs.View.{Extends, places, spot, own_count, published, freed}
+use Rattle.love_base.specs.Prefix.{IsPrefix}
+use Rattle.turn_desk.specs.View.{places, spot, own_count, published, freed}
 use Rattle.turn_desk.specs.Rule.{World, Later, ObjectOk, Desked, tally_of}
 use Rattle.turn_desk.specs.Steps.{put_out, gave}
 use Rattle.turn_desk.proofs.Lists.{whole, longer, set_there, sum_set}
@@ -49,14 +50,14 @@ module _ {E : Type 0} where
   abbrev pub with_history : World E → ℕ → List E → World E
   with_history W o log = record W { logs = with_log W.logs o log }
 
-  grows : (W : World E) (o : ℕ) (log : List E) → Extends (W.logs o) log → Later W (with_history W o log)
+  grows : (W : World E) (o : ℕ) (log : List E) → IsPrefix (W.logs o) log → Later W (with_history W o log)
   grows W o log longer = record {
     objects = refl;
     seats = refl;
     awaited = refl;
     fixes = λ p. refl;
-    logs = λ p. dite (ℕ_discrete p o) (λ e. subst (λ (k : ℕ). Extends (W.logs k) (with_log W.logs o log k)) (sym e) (subst (Extends (W.logs o)) (sym (log_here W.logs o log)) longer))
-        (λ ne. subst (Extends (W.logs p)) (sym (log_off W.logs o p log ne)) (whole (W.logs p)));
+    logs = λ p. dite (ℕ_discrete p o) (λ e. subst (λ (k : ℕ). IsPrefix (W.logs k) (with_log W.logs o log k)) (sym e) (subst (IsPrefix (W.logs o)) (sym (log_here W.logs o log)) longer))
+        (λ ne. subst (IsPrefix (W.logs p)) (sym (log_off W.logs o p log ne)) (whole (W.logs p)));
   }
 
   -- what is known of the object o once its history was published
@@ -83,7 +84,7 @@ module _ {O E : Type 0} (history : O → List E) (number : O → ℕ) (summed : 
       ne (one_seat history number summed between s r j id u v there at d.1 (sym d.0 ∙ m.0))
 
   -- the object o once its history was published
-  object_published : (s : State (Option O) (View E)) (r : Rule s) (o id new : ℕ) (v : View E) (log : List E) → (lt : o < r.world.objects) → get_elem? s.views id ≡ some v → (spot v o).phase ≢ Free → v.awaited ≡ 0 → Extends (spot v o).known log
+  object_published : (s : State (Option O) (View E)) (r : Rule s) (o id new : ℕ) (v : View E) (log : List E) → (lt : o < r.world.objects) → get_elem? s.views id ≡ some v → (spot v o).phase ≢ Free → v.awaited ≡ 0 → IsPrefix (spot v o).known log
       → between log ≡ true → length log < 2 ^ 22 → summed log < 2 ^ 42 → new ≡ tally_of summed log
       → ObjectOk history number summed between (set s.words (r.world.objects + o) new) s.homes (set s.views id (published o log v)) (with_history r.world o log) o
   object_published s r o id new v log lt at busy full longer' rests short small tally =
@@ -113,13 +114,13 @@ module _ {O E : Type 0} (history : O → List E) (number : O → ℕ) (summed : 
             let none_new = places_outside v.number (length (spot v o).known) (length log - length (spot v o).known) q (⊎_elim (λ (z : q ≡ 0). inl (omega arith)) (λ (g : length log < q). inr (omega arith)) out') in let a = own q in let b = sums q in omega arith;
       }
 
-  pub can_publish : (slots o id new : ℕ) (log : List E) (m : Me (Option O) (View E)) → o < slots → (spot m.0 o).phase ≡ Taken → m.0.awaited ≡ 0 → Extends (spot m.0 o).known log → between log ≡ true → length log < 2 ^ 22 → summed log < 2 ^ 42 → new ≡ tally_of summed log
+  pub can_publish : (slots o id new : ℕ) (log : List E) (m : Me (Option O) (View E)) → o < slots → (spot m.0 o).phase ≡ Taken → m.0.awaited ≡ 0 → IsPrefix (spot m.0 o).known log → between log ≡ true → length log < 2 ^ 22 → summed log < 2 ^ 42 → new ≡ tally_of summed log
       → Allows Rule slots id m (slots + o) (λ _. new) (put_out o log (step slots (slots + o) new 0 none) m)
   can_publish slots o id new log m lt phase full longer' rests short small tally s r deep at _ =
       let count : length s.homes ≡ r.world.objects = r.deep in let same : slots ≡ r.world.objects = sym deep ∙ count in let inside : o < r.world.objects = omega arith in
       let busy : (spot m.0 o).phase ≢ Free = λ e. taken_is_busy (sym phase ∙ e) in let ob = r.objects o inside in let mine = ob.busy id m.0 at busy in let knows = r.knows id m.0 at mine.1 in let wide : length m.0.spots ≡ r.world.objects = knows.wide in
       let w : View E = published o log m.0 in let W' : World E = with_history r.world o log in let now = log_here r.world.logs o log in
-      let later : Later r.world W' = grows r.world o log (subst (λ (l : List E). Extends l log) mine.2 longer') in let known = stays_known r.world W' m.0 later knows in
+      let later : Later r.world W' = grows r.world o log (subst (λ (l : List E). IsPrefix l log) mine.2 longer') in let known = stays_known r.world W' m.0 later knows in
       let long : length s.words ≡ 2 * r.world.objects = r.wide in (
         w,
         keeps,
@@ -129,7 +130,7 @@ module _ {O E : Type 0} (history : O → List E) (number : O → ℕ) (summed : 
             (record { number = refl; numbers = refl; next = refl; spots = λ p ne. off_spot m.0 o p (published_spot o log m.0) ne }) (record { objects = refl; within = r.within; most = r.most })
             (length-set s.words (r.world.objects + o) new) refl
             (λ p ne l. record { turn = get_or-set_other s.words (r.world.objects + o) p new 0 (λ q. omega arith); tally = get_or-set_other s.words (r.world.objects + o) (r.world.objects + p) new 0 (λ q. ne (omega arith)); slot = refl; log = log_off r.world.logs o p log ne; fix = refl; awaits = λ z. z; has = λ z. z })
-            (knows_spot W' m.0 o (published_spot o log m.0) inside known (subst (Extends log) (sym now) (whole log)) (omega arith) (let e : length log ≡ length (W'.logs o) = ap length (sym now) in omega arith) (known.told o))
+            (knows_spot W' m.0 o (published_spot o log m.0) inside known (subst (IsPrefix log) (sym now) (whole log)) (omega arith) (let e : length log ≡ length (W'.logs o) = ap length (sym now) in omega arith) (known.told o))
             (λ j u _ there b. stays_known r.world W' u later (r.knows j u there b))
             (λ _. object_published s r o id new m.0 log inside at busy full longer' rests short small tally)),
         refl,

@@ -5,17 +5,17 @@ use Rattle.std.proofs.lemmas.List.{get_or_append_left}
 use Rattle.std.proofs.lemmas.List.Sums.{sum_by-cons}
 use mathlib.Core.Option.{some, some-injective, some-ne-none}
 use lib.ListN.{get_elem?}
-use Rattle.turn_desk.specs.View.{Extends}
+use Rattle.love_base.specs.Prefix.{IsPrefix}
 
 module _ {E : Type 0} where
   -- a list begins with itself
-  pub whole : (xs : List E) → Extends xs xs
+  pub whole : (xs : List E) → IsPrefix xs xs
   whole xs = ([], sym (append-nil xs))
 
-  pub further : (xs ys zs : List E) → Extends xs ys → Extends ys zs → Extends xs zs
+  pub further : (xs ys zs : List E) → IsPrefix xs ys → IsPrefix ys zs → IsPrefix xs zs
   further xs ys zs a b = (a.0 ++ b.0, b.1 ∙ (ap (λ (l : List E). l ++ b.0) a.1 ∙ append_assoc xs a.0 b.0))
 
-  pub longer : (xs ys : List E) → Extends xs ys → length xs ≤ length ys
+  pub longer : (xs ys : List E) → IsPrefix xs ys → length xs ≤ length ys
   longer xs ys a = rw a.1 (omega (arith, length-append xs a.0))
 
 module _ {A : Type 0} where

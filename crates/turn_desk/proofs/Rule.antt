@@ -12,7 +12,8 @@ use Rattle.turn_desk.specs.declared.view.Phase.TheVariants.{Free}
 use Rattle.turn_desk.specs.declared.view.Spot.{Spot}
 use Rattle.turn_desk.specs.declared.view.Told.{Told}
 use Rattle.turn_desk.specs.declared.view.View.{View}
-use Rattle.turn_desk.specs.View.{Extends, spot, with_spot, own_count, number_count}
+use Rattle.love_base.specs.Prefix.{IsPrefix}
+use Rattle.turn_desk.specs.View.{spot, with_spot, own_count, number_count}
 use Rattle.turn_desk.specs.Rule.{World, Later, Knows, Named, ObjectOk, Desked}
 use Rattle.turn_desk.proofs.Lists.{further, longer, set_there, sum_set, sum_at, sum_two}
 use Rattle.turn_desk.proofs.Views.{at_spot, off_spot}
@@ -34,8 +35,8 @@ module _ {E : Type 0} where
   }
 
   -- what is known once more is known of the object o
-  pub knows_spot : (W : World E) (v : View E) (o : ℕ) (x : Spot E) → o < W.objects → Knows W v → Extends x.known (W.logs o) → length x.known ≤ x.front → x.front ≤ length (W.logs o)
-      → ((i : ℕ) (t : Told E) → get_elem? x.told i ≡ some t → Extends t.known (W.logs o)) → Knows W (with_spot v o x)
+  pub knows_spot : (W : World E) (v : View E) (o : ℕ) (x : Spot E) → o < W.objects → Knows W v → IsPrefix x.known (W.logs o) → length x.known ≤ x.front → x.front ≤ length (W.logs o)
+      → ((i : ℕ) (t : Told E) → get_elem? x.told i ≡ some t → IsPrefix t.known (W.logs o)) → Knows W (with_spot v o x)
   knows_spot W v o x lt k prefix' low high told' =
       let w : View E = with_spot v o x in let wide : length v.spots ≡ W.objects = k.wide in let here : spot w o ≡ x = at_spot v o x (omega arith) in record {
         wide = length-set v.spots o x ∙ k.wide;

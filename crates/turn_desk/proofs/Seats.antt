@@ -14,7 +14,8 @@ use Rattle.turn_desk.specs.declared.view.Phase.TheVariants.{Free}
 use Rattle.turn_desk.specs.declared.view.Spot.{Spot}
 use Rattle.turn_desk.specs.declared.view.Told.{Told}
 use Rattle.turn_desk.specs.declared.view.View.{View}
-use Rattle.turn_desk.specs.View.{Extends, blank, spot, own_count, number_count, makes_one, newcomer, joined, all_joined, both, spent}
+use Rattle.love_base.specs.Prefix.{IsPrefix}
+use Rattle.turn_desk.specs.View.{blank, spot, own_count, number_count, makes_one, newcomer, joined, all_joined, both, spent}
 use Rattle.turn_desk.specs.Rule.{World, Knows, Named, ObjectOk, Desked}
 use Rattle.turn_desk.proofs.Lists.{set_there, at_either, at_end, sum_set}
 use Rattle.turn_desk.proofs.Views.{blank_spot, joined_spot, length_joined}
@@ -47,7 +48,7 @@ module _ {E : Type 0} where
     kinds = k.kinds;
     fixed = k.fixed;
     handed = λ i l e. absurd (some-ne-none l (sym e));
-    prefix = λ o. subst (λ (x : Spot E). Extends x.known (W.logs o)) (sym (new_spot v o)) (W.logs o, refl);
+    prefix = λ o. subst (λ (x : Spot E). IsPrefix x.known (W.logs o)) (sym (new_spot v o)) (W.logs o, refl);
     front = λ o. subst (λ (x : Spot E). (length x.known ≤ x.front) × (x.front ≤ length (W.logs o))) (sym (new_spot v o)) (omega arith, omega arith);
     told = λ o k t e. absurd (some-ne-none t (sym (subst (λ (x : Spot E). get_elem? x.told k ≡ some t) (new_spot v o) e)));
     refused = λ k f e. absurd (some-ne-none f (sym e));
@@ -61,9 +62,9 @@ module _ {E : Type 0} where
   both_past W v w o nlt a = let e = length_joined w.number v.spots w.spots in get_or_past (all_joined w.number v.spots w.spots) o blank (omega arith)
 
   -- what is handed over is what the pass knew, and what it had been told
-  handed : (y : Spot E) (seat : ℕ) (log : List E) → Extends y.known log → ((k : ℕ) (t : Told E) → get_elem? y.told k ≡ some t → Extends t.known log)
-      → (k : ℕ) (t : Told E) → get_elem? (record { seat = seat; known = y.known } ∷ y.told) k ≡ some t → Extends t.known log
-  handed y seat log known his zero t e = subst (λ (z : Told E). Extends z.known log) (some-injective (record { seat = seat; known = y.known }) t e) known
+  handed : (y : Spot E) (seat : ℕ) (log : List E) → IsPrefix y.known log → ((k : ℕ) (t : Told E) → get_elem? y.told k ≡ some t → IsPrefix t.known log)
+      → (k : ℕ) (t : Told E) → get_elem? (record { seat = seat; known = y.known } ∷ y.told) k ≡ some t → IsPrefix t.known log
+  handed y seat log known his zero t e = subst (λ (z : Told E). IsPrefix z.known log) (some-injective (record { seat = seat; known = y.known }) t e) known
   handed y seat log known his (suc k) t e = his k t e
 
   knows_both : (W : World E) (v w : View E) → Knows W v → Knows W w → Knows W (both v w)
@@ -75,8 +76,8 @@ module _ {E : Type 0} where
         kinds = a.kinds;
         fixed = a.fixed;
         handed = λ i l e. ⊎_elim (λ (q : get_elem? v.handed i ≡ some l). a.handed i l q) (λ (q : (j : ℕ) × (get_elem? (w.fixed ∷ w.handed) j ≡ some l)). handed_numbers w.fixed w.handed (λ z. (o : ℕ) → o < W.objects → get_or z o 0 ≡ W.fixes o) b.fixed b.handed q.0 l q.1) (at_either v.handed (w.fixed ∷ w.handed) i l e);
-        prefix = λ o. dite (dec_le (o + 1) W.objects) (λ lt. subst (λ (x : Spot E). Extends x.known (W.logs o)) (sym (here o (omega arith))) (a.prefix o))
-            (λ nlt. subst (λ (x : Spot E). Extends x.known (W.logs o)) (sym (past o (λ l. nlt (omega arith)))) (W.logs o, refl));
+        prefix = λ o. dite (dec_le (o + 1) W.objects) (λ lt. subst (λ (x : Spot E). IsPrefix x.known (W.logs o)) (sym (here o (omega arith))) (a.prefix o))
+            (λ nlt. subst (λ (x : Spot E). IsPrefix x.known (W.logs o)) (sym (past o (λ l. nlt (omega arith)))) (W.logs o, refl));
         front = λ o. let x = a.front o in let y = b.front o in dite (dec_le (o + 1) W.objects)
             (λ lt. let m = le-max_left (spot v o).front (spot w o).front in let n : max (spot v o).front (spot w o).front ≤ length (W.logs o) = max-le x.1 y.1 in
             subst (λ (z : Spot E). (length z.known ≤ z.front) × (z.front ≤ length (W.logs o))) (sym (here o (omega arith))) (omega arith, n))

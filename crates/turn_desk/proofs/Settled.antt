@@ -9,10 +9,11 @@ use lib.ListN.{get_elem?}
 use Rattle.atomic_table.specs.Table.{Final, Seen, Me}
 use Rattle.turn_desk.specs.declared.view.Spot.{Spot}
 use Rattle.turn_desk.specs.declared.view.View.{View}
-use Rattle.turn_desk.specs.View.{Extends, blank, spot, own_count, number_count}
+use Rattle.love_base.specs.Prefix.{IsPrefix}
+use Rattle.turn_desk.specs.View.{blank, spot, own_count, number_count}
 use Rattle.turn_desk.specs.Rule.{Desked}
 use Rattle.turn_desk.specs.Passes.{Standing, fixed_at}
-use Rattle.turn_desk.specs.Closing.{numbers_of, views_of, own_total, front_of, fronts_of, gathered, Gathers, AtEach, AllFilled}
+use Rattle.turn_desk.specs.Closing.{numbers_of, views_of, own_total, front_of, fronts_of, gathered, Gathers, AtEachObject, AllFilled}
 use Rattle.turn_desk.proofs.Lists.{at_below, sum_at}
 use Rattle.turn_desk.proofs.AllBack.{IsHome, all_home, numbers_apart, numbered, placed_row, placed_length}
 
@@ -105,19 +106,19 @@ module _ {O E : Type 0} (history : O → List E) (number : O → ℕ) (summed : 
       let same : Some (home o lt).object ≡ Some x = some-injective (Some (home o lt).object) (Some x) (sym (f.4 o (Some (home o lt).object) (home o lt).home) ∙ there) in
       (lt, unwrapped (home o lt).object x same)
 
-  pub fixed : map Some objects ≡ xs → AtEach objects (λ o x. All (λ p. number x ≡ fixed_at p.view o) passes)
+  pub fixed : map Some objects ≡ xs → AtEachObject objects (λ o x. All (λ p. number x ≡ fixed_at p.view o) passes)
   fixed taken o x e k d lt = let h = the_object taken o x e in ap number (sym h.1) ∙ (home o h.0).fixed k (get_or passes k d).view (pass_at k (get_or passes k d) (or_at passes k d lt))
 
-  pub known : map Some objects ≡ xs → AtEach objects (λ o x. All (λ p. Extends (spot p.view o).known (history x)) passes)
-  known taken o x e k d lt = let h = the_object taken o x e in subst (λ (y : O). Extends (spot (get_or passes k d).view o).known (history y)) h.1 ((home o h.0).seen k (get_or passes k d).view (pass_at k (get_or passes k d) (or_at passes k d lt)))
+  pub known : map Some objects ≡ xs → AtEachObject objects (λ o x. All (λ p. IsPrefix (spot p.view o).known (history x)) passes)
+  known taken o x e k d lt = let h = the_object taken o x e in subst (λ (y : O). IsPrefix (spot (get_or passes k d).view o).known (history y)) h.1 ((home o h.0).seen k (get_or passes k d).view (pass_at k (get_or passes k d) (or_at passes k d lt)))
 
   total : (o p : ℕ) → own_total o p passes ≡ sum_by (own_count o p) vs
   total o p = sym (ap (sum_by (own_count o p)) g.parts ∙ sum_map (own_count o p) (λ (q : Standing E). q.view) passes)
 
-  pub once : map Some objects ≡ xs → AtEach objects (λ o x. (place : ℕ) → 0 < place → place ≤ length (history x) → own_total o place passes ≡ 1)
+  pub once : map Some objects ≡ xs → AtEachObject objects (λ o x. (place : ℕ) → 0 < place → place ≤ length (history x) → own_total o place passes ≡ 1)
   once taken o x e place low high = let h = the_object taken o x e in total o place ∙ (home o h.0).once place low (subst (λ (y : O). place ≤ length (history y)) (sym h.1) high)
 
-  pub no_other : map Some objects ≡ xs → AtEach objects (λ o x. (place : ℕ) → (place ≡ 0) ⊎ (length (history x) < place) → own_total o place passes ≡ 0)
+  pub no_other : map Some objects ≡ xs → AtEachObject objects (λ o x. (place : ℕ) → (place ≡ 0) ⊎ (length (history x) < place) → own_total o place passes ≡ 0)
   no_other taken o x e place out = let h = the_object taken o x e in total o place ∙ (home o h.0).else place (subst (λ (y : O). (place ≡ 0) ⊎ (length (history y) < place)) (sym h.1) out)
 
   -- the row of a pass that was given back
@@ -137,6 +138,6 @@ module _ {O E : Type 0} (history : O → List E) (number : O → ℕ) (summed : 
   row_lengths k d lt = let many = row_count in let h = given_back (k + 1) (omega arith) (omega arith) in let v : View E = h.1 in let at : v.number - 1 ≡ k = (let e = h.3 in omega arith) in
       ap length (default_at rows k d [] lt ∙ (ap (λ (n : ℕ). get_or rows n []) (sym at) ∙ row_of h.0 v h.2)) ∙ (length-map v.spots (λ (x : Spot E). x.front) ∙ (g.back h.0 v h.2).wide)
 
-  pub within : map Some objects ≡ xs → AtEach objects (λ o x. All (λ p. front_of rows p.view.number o ≤ length (history x)) passes)
+  pub within : map Some objects ≡ xs → AtEachObject objects (λ o x. All (λ p. front_of rows p.view.number o ≤ length (history x)) passes)
   within taken o x e k d lt = let h = the_object taken o x e in let at = pass_at k (get_or passes k d) (or_at passes k d lt) in
       let a = shown_at k (get_or passes k d).view at o in let b = subst (λ (y : O). (spot (get_or passes k d).view o).front ≤ length (history y)) h.1 ((home o h.0).front k (get_or passes k d).view at) in omega arith

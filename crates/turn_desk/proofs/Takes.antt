@@ -12,7 +12,8 @@ use Rattle.turn_desk.specs.declared.view.Phase.TheVariants.{Free, Taken}
 use Rattle.turn_desk.specs.declared.view.Refusal.{Refusal}
 use Rattle.turn_desk.specs.declared.view.Spot.{Spot}
 use Rattle.turn_desk.specs.declared.view.View.{View}
-use Rattle.turn_desk.specs.View.{Extends, spot, own_count, taken, refused}
+use Rattle.love_base.specs.Prefix.{IsPrefix}
+use Rattle.turn_desk.specs.View.{spot, own_count, taken, refused}
 use Rattle.turn_desk.specs.Rule.{World, Knows, ObjectOk, Desked}
 use Rattle.turn_desk.specs.Steps.{took, took_vacant}
 use Rattle.turn_desk.proofs.Lists.{whole, set_there, at_end}
@@ -34,7 +35,7 @@ module _ {E : Type 0} where
   -- the pass that takes knows the history whole
   knows_taken : (W : World E) (v : View E) (o : ℕ) (log : List E) → o < W.objects → log ≡ W.logs o → Knows W v → Knows W (taken o log v)
   knows_taken W v o log lt is k = knows_spot W v o (taken_spot o log v) lt k
-      (subst (Extends log) is (whole log)) (omega arith) (let e : length log ≡ length (W.logs o) = ap length is in omega arith) (k.told o)
+      (subst (IsPrefix log) is (whole log)) (omega arith) (let e : length log ≡ length (W.logs o) = ap length is in omega arith) (k.told o)
 
   -- the pass that was refused knows of it
   knows_refused : (W : World E) (v : View E) (o found : ℕ) → 0 < found → found ≤ W.seats → found ≢ v.number → Knows W v → Knows W (refused o found v)
@@ -112,9 +113,9 @@ module _ {O E : Type 0} (history : O → List E) (number : O → ℕ) (summed : 
             refl,
             record {
               continues = record {
-                known = subst (Extends (spot m.0 o).known) (sym h.2) (mine.prefix o);
+                known = subst (IsPrefix (spot m.0 o).known) (sym h.2) (mine.prefix o);
                 front = subst (λ (l : List E). (spot m.0 o).front ≤ length l) (sym h.2) front.1;
-                told = λ k t there. subst (Extends t.known) (sym h.2) (mine.told o k t there);
+                told = λ k t there. subst (IsPrefix t.known) (sym h.2) (mine.told o k t there);
               };
               rests = ap between h.2 ∙ ob.rests;
               kind = h.3 ∙ sym (mine.fixed o lt);

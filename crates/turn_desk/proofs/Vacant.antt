@@ -9,7 +9,8 @@ use Rattle.turn_desk.specs.declared.view.Own.{Own}
 use Rattle.turn_desk.specs.declared.view.Phase.TheVariants.{Free}
 use Rattle.turn_desk.specs.declared.view.Spot.{Spot}
 use Rattle.turn_desk.specs.declared.view.View.{View}
-use Rattle.turn_desk.specs.View.{Extends, blank, spot, own_count, number_count, taken, brought, freed, opening}
+use Rattle.love_base.specs.Prefix.{IsPrefix}
+use Rattle.turn_desk.specs.View.{blank, spot, own_count, number_count, taken, brought, freed, opening}
 use Rattle.turn_desk.specs.Rule.{World, Knows, Named, ObjectOk, Desked}
 use Rattle.turn_desk.proofs.Keeping.{set_twice}
 use Rattle.turn_desk.proofs.Seats.{alone_here, alone_else}
@@ -61,7 +62,7 @@ module _ {E : Type 0} where
     kinds = length-replicate objects 0;
     fixed = λ o lt. get_or-replicate objects o 0 0 lt;
     handed = λ k l e. absurd (some-ne-none l (sym e));
-    prefix = λ o. subst (λ (x : Spot E). Extends x.known []) (sym (first_spot objects o)) ([], refl);
+    prefix = λ o. subst (λ (x : Spot E). IsPrefix x.known []) (sym (first_spot objects o)) ([], refl);
     front = λ o. subst (λ (x : Spot E). (length x.known ≤ x.front) × (x.front ≤ 0)) (sym (first_spot objects o)) (omega arith, omega arith);
     told = λ o k t e. absurd (some-ne-none t (sym (subst (λ (x : Spot E). get_elem? x.told k ≡ some t) (first_spot objects o) e)));
     refused = λ k r e. absurd (some-ne-none r (sym e));

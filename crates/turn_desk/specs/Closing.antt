@@ -52,8 +52,8 @@ module _ {E : Type 0} where
     pub idle : HoldsNothing v
 
 -- what holds of each object of a list, by its place
-abbrev pub AtEach : {O : Type 0} → List O → (ℕ → O → Type 0) → Type 0
-AtEach {O} xs P = (o : ℕ) (x : O) → slice_get xs o ≡ Some x → P o x
+abbrev pub AtEachObject : {O : Type 0} → List O → (ℕ → O → Type 0) → Type 0
+AtEachObject {O} xs P = (o : ℕ) (x : O) → slice_get xs o ≡ Some x → P o x
 
 -- there is an object in each slot
 abbrev pub AllFilled : {O : Type 0} → List (Option O) → Type 0

@@ -20,7 +20,10 @@ pub record IsNew {O E : Type 0} (number : ℕ) (table : TableId) (me : Me (Optio
 
 -- the pass of this number at a desk whose objects have these fixed numbers; the first is the one that made the others
 abbrev pub opening_pass : {E : Type 0} → DeskId → List ℕ → ℕ → Standing E
-opening_pass desk fixed number = record { desk = desk; view = opening number (if number == 1 then desk.seats + 1 else 0) desk.seats 0 fixed }
+opening_pass desk fixed number = record {
+  desk = desk;
+  view = opening number (if number == 1 then desk.seats + 1 else 0) desk.seats 0 fixed;
+}
 
 -- the passes are numbered from 1, in order
 abbrev pub opening_passes : {E : Type 0} → DeskId → List ℕ → List (Standing E)

@@ -13,6 +13,10 @@ pub record DeskId : Type 0 where
   pub table : TableId
   pub seats : ℕ
 
+-- how many objects the desk has
+abbrev pub object_count : DeskId → ℕ
+object_count desk = desk.table.slots
+
 -- a pass: its desk, and what it knows
 pub record Standing (E : Type 0) : Type 0 where
   pub desk : DeskId

@@ -8,7 +8,8 @@ use Rattle.turn_desk.specs.declared.view.Phase.TheVariants.{Free}
 use Rattle.turn_desk.specs.declared.view.Refusal.{Refusal}
 use Rattle.turn_desk.specs.declared.view.Told.{Told}
 use Rattle.turn_desk.specs.declared.view.View.{View}
-use Rattle.turn_desk.specs.View.{Extends, spot, own_count, number_count}
+use Rattle.love_base.specs.Prefix.{IsPrefix}
+use Rattle.turn_desk.specs.View.{spot, own_count, number_count}
 
 -- what all passes agree on: the numbers stay, and the histories only grow
 pub record World (E : Type 0) : Type 0 where
@@ -28,7 +29,7 @@ pub record Later {E : Type 0} (W W' : World E) : Type 0 where
   pub seats : W'.seats ≡ W.seats
   pub awaited : W'.awaited ≡ W.awaited
   pub fixes : (o : ℕ) → W'.fixes o ≡ W.fixes o
-  pub logs : (o : ℕ) → Extends (W.logs o) (W'.logs o)
+  pub logs : (o : ℕ) → IsPrefix (W.logs o) (W'.logs o)
 
 -- the tally of a history: its length in the 22 high bits, its summary in the 42 low ones
 abbrev pub tally_of : {E : Type 0} → (List E → ℕ) → List E → ℕ
@@ -42,11 +43,13 @@ module _ {E : Type 0} where
     pub awaited : v.awaited ≡ W.awaited
     pub kinds : length v.fixed ≡ W.objects
     pub fixed : (o : ℕ) → o < W.objects → slice_index v.fixed o ≡ W.fixes o
-    pub handed : (k : ℕ) (numbers : List ℕ) → get_elem? v.handed k ≡ some numbers → (o : ℕ) → o < W.objects → slice_index numbers o ≡ W.fixes o
-    pub prefix : (o : ℕ) → Extends (spot v o).known (W.logs o)
+    pub handed : (k : ℕ) (numbers : List ℕ) → get_elem? v.handed k ≡ some numbers
+        → (o : ℕ) → o < W.objects → slice_index numbers o ≡ W.fixes o
+    pub prefix : (o : ℕ) → IsPrefix (spot v o).known (W.logs o)
     pub front : (o : ℕ) → (length (spot v o).known ≤ (spot v o).front) × ((spot v o).front ≤ length (W.logs o))
-    pub told : (o k : ℕ) (t : Told E) → get_elem? (spot v o).told k ≡ some t → Extends t.known (W.logs o)
-    pub refused : (k : ℕ) (r : Refusal) → get_elem? v.refused k ≡ some r → (0 < r.found) × (r.found ≤ W.seats) × (r.found ≢ r.seat)
+    pub told : (o k : ℕ) (t : Told E) → get_elem? (spot v o).told k ≡ some t → IsPrefix t.known (W.logs o)
+    pub refused : (k : ℕ) (r : Refusal) → get_elem? v.refused k ≡ some r
+        → (0 < r.found) × (r.found ≤ W.seats) × (r.found ≢ r.seat)
 
   -- who the pass in the seat j is: one pass makes the others, and one that was joined in has nothing left
   pub record Named (next maker j : ℕ) (v : View E) : Type 0 where
@@ -63,9 +66,14 @@ module _ {O E : Type 0} (history : O → List E) (number : O → ℕ) (summed : 
     pub rests : between (W.logs o) ≡ true
     pub fresh : o < W.awaited → W.logs o ≡ []
     pub vacant : slice_index words o ≡ 0 → o < W.awaited → get_elem? homes o ≡ some (some None)
-    pub home : slice_index words o ≡ 0 → W.awaited ≤ o → (x : O) × (get_elem? homes o ≡ some (some (Some x))) × (history x ≡ W.logs o) × (number x ≡ W.fixes o)
-    pub away : slice_index words o ≢ 0 → (get_elem? homes o ≡ some none) × (j : ℕ) × (v : View E) × (get_elem? views j ≡ some v) × (v.number ≡ slice_index words o) × ((spot v o).phase ≢ Free)
-    pub busy : (j : ℕ) (v : View E) → get_elem? views j ≡ some v → (spot v o).phase ≢ Free → (slice_index words o ≡ v.number) × (0 < v.number) × ((spot v o).known ≡ W.logs o)
+    pub home : slice_index words o ≡ 0 → W.awaited ≤ o
+        → (x : O) × (get_elem? homes o ≡ some (some (Some x)))
+        × (history x ≡ W.logs o) × (number x ≡ W.fixes o)
+    pub away : slice_index words o ≢ 0
+        → (get_elem? homes o ≡ some none) × (j : ℕ) × (v : View E) × (get_elem? views j ≡ some v)
+        × (v.number ≡ slice_index words o) × ((spot v o).phase ≢ Free)
+    pub busy : (j : ℕ) (v : View E) → get_elem? views j ≡ some v → (spot v o).phase ≢ Free
+        → (slice_index words o ≡ v.number) × (0 < v.number) × ((spot v o).known ≡ W.logs o)
     pub once : (p : ℕ) → 0 < p → p ≤ length (W.logs o) → sum_by (own_count o p) views ≡ 1
     pub else : (p : ℕ) → (p ≡ 0) ⊎ (length (W.logs o) < p) → sum_by (own_count o p) views ≡ 0
 

@@ -7,13 +7,14 @@ use Rattle.turn_desk.specs.declared.view.Phase.TheVariants.{Taken}
 use Rattle.turn_desk.specs.declared.view.Refusal.{Refusal}
 use Rattle.turn_desk.specs.declared.view.Told.{Told}
 use Rattle.turn_desk.specs.declared.view.View.{View}
-use Rattle.turn_desk.specs.View.{Extends, spot, taken, refused, published, freed, seated, brought}
+use Rattle.love_base.specs.Prefix.{IsPrefix}
+use Rattle.turn_desk.specs.View.{spot, taken, refused, published, freed, seated, brought}
 
 -- a history begins with all that a pass has seen of the object o, or was told of it
 pub record Continues {E : Type 0} (v : View E) (o : ℕ) (log : List E) : Type 0 where
-  pub known : Extends (spot v o).known log
+  pub known : IsPrefix (spot v o).known log
   pub front : (spot v o).front ≤ length log
-  pub told : (k : ℕ) (t : Told E) → get_elem? (spot v o).told k ≡ some t → Extends t.known log
+  pub told : (k : ℕ) (t : Told E) → get_elem? (spot v o).told k ≡ some t → IsPrefix t.known log
 
 -- the pass has the object o with this history, and has published nothing since
 pub record HasTaken {E : Type 0} (v : View E) (o : ℕ) (log : List E) : Type 0 where
@@ -34,11 +35,14 @@ module _ {E : Type 0} where
 
   -- takes of the object o were refused, and nothing else changed
   abbrev pub Noted : View E → ℕ → View E → Type 0
-  Noted v o w = (notes : List Refusal) × AreRefusals v o notes × (w ≡ record v { refused = v.refused ++ notes })
+  Noted v o w =
+      (notes : List Refusal) × AreRefusals v o notes × (w ≡ record v { refused = v.refused ++ notes })
 
   -- the object o was taken with this history, perhaps after some refusals
   abbrev pub TakesAfterRefusals : View E → ℕ → List E → View E → Type 0
-  TakesAfterRefusals v o log w = (notes : List Refusal) × AreRefusals v o notes × (w ≡ taken o log (record v { refused = v.refused ++ notes }))
+  TakesAfterRefusals v o log w =
+      (notes : List Refusal) × AreRefusals v o notes
+      × (w ≡ taken o log (record v { refused = v.refused ++ notes }))
 
 module _ {O E : Type 0} (history : O → List E) (number : O → ℕ) (between : List E → Bool) where
   -- the pass has the object o, which is x, with a history that goes on from all that it had seen

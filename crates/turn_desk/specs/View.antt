@@ -6,10 +6,6 @@ use Rattle.turn_desk.specs.declared.view.Phase.TheVariants.{Free, Taken, Publish
 use Rattle.turn_desk.specs.declared.view.Spot.{Spot}
 use Rattle.turn_desk.specs.declared.view.View.{View}
 
--- the second list begins with the first
-abbrev pub Extends : {E : Type 0} → List E → List E → Type 0
-Extends {E} xs ys = (more : List E) × (ys ≡ xs ++ more)
-
 -- the n places behind the first so many, filled by one pass
 abbrev pub places : ℕ → ℕ → ℕ → List Own
 places seat after zero = []
@@ -37,19 +33,44 @@ module _ {E : Type 0} where
 
   -- the object o was taken, with this history
   abbrev pub taken : ℕ → List E → View E → View E
-  taken o log v = let x = spot v o in with_spot v o (record { phase = Taken; known = log; front = length log; own = x.own; told = x.told })
+  taken o log v =
+      let x = spot v o in
+      with_spot v o (record {
+        phase = Taken;
+        known = log;
+        front = length log;
+        own = x.own;
+        told = x.told;
+      })
 
   -- a take of the object o found another number
   abbrev pub refused : ℕ → ℕ → View E → View E
-  refused o found v = record v { refused = v.refused ++ record { seat = v.number; object = o; found = found } ∷ [] }
+  refused o found v =
+      record v { refused = v.refused ++ record { seat = v.number; object = o; found = found } ∷ [] }
 
   -- this history of the object o was published: what is new in it is the pass's own
   abbrev pub published : ℕ → List E → View E → View E
-  published o log v = let x = spot v o in with_spot v o (record { phase = Published; known = log; front = length log; own = x.own ++ places v.number (length x.known) (length log - length x.known); told = x.told })
+  published o log v =
+      let x = spot v o in
+      with_spot v o (record {
+        phase = Published;
+        known = log;
+        front = length log;
+        own = x.own ++ places v.number (length x.known) (length log - length x.known);
+        told = x.told;
+      })
 
   -- the object o was given back
   abbrev pub freed : ℕ → View E → View E
-  freed o v = let x = spot v o in with_spot v o (record { phase = Free; known = x.known; front = x.front; own = x.own; told = x.told })
+  freed o v =
+      let x = spot v o in
+      with_spot v o (record {
+        phase = Free;
+        known = x.known;
+        front = x.front;
+        own = x.own;
+        told = x.told;
+      })
 
   -- the number of passes was brought
   abbrev pub seated : ℕ → View E → View E
@@ -65,11 +86,27 @@ module _ {E : Type 0} where
 
   -- what the pass that was made knows
   abbrev pub newcomer : View E → View E
-  newcomer v = record { number = v.next; numbers = v.next ∷ []; seats = v.seats; next = 0; awaited = v.awaited; fixed = v.fixed; handed = []; spots = replicate (length v.spots) blank; refused = [] }
+  newcomer v = record {
+    number = v.next;
+    numbers = v.next ∷ [];
+    seats = v.seats;
+    next = 0;
+    awaited = v.awaited;
+    fixed = v.fixed;
+    handed = [];
+    spots = replicate (length v.spots) blank;
+    refused = [];
+  }
 
   -- what is known of one object once the pass of this number is joined in
   abbrev pub joined : ℕ → Spot E → Spot E → Spot E
-  joined seat x y = record { phase = x.phase; known = x.known; front = max x.front y.front; own = x.own ++ y.own; told = x.told ++ record { seat = seat; known = y.known } ∷ y.told }
+  joined seat x y = record {
+    phase = x.phase;
+    known = x.known;
+    front = max x.front y.front;
+    own = x.own ++ y.own;
+    told = x.told ++ record { seat = seat; known = y.known } ∷ y.told;
+  }
 
   -- the same for each object
   abbrev pub all_joined : ℕ → List (Spot E) → List (Spot E) → List (Spot E)
@@ -79,12 +116,37 @@ module _ {E : Type 0} where
 
   -- the second is joined into the first, and hands over what it has
   abbrev pub both : View E → View E → View E
-  both v w = record v { numbers = v.numbers ++ w.numbers; handed = v.handed ++ w.fixed ∷ w.handed; spots = all_joined w.number v.spots w.spots; refused = v.refused ++ w.refused }
+  both v w = record v {
+    numbers = v.numbers ++ w.numbers;
+    handed = v.handed ++ w.fixed ∷ w.handed;
+    spots = all_joined w.number v.spots w.spots;
+    refused = v.refused ++ w.refused;
+  }
 
   -- what is left of a pass that was joined into another
   abbrev pub spent : View E
-  spent = record { number = 0; numbers = []; seats = 0; next = 0; awaited = 0; fixed = []; handed = []; spots = []; refused = [] }
+  spent = record {
+    number = 0;
+    numbers = [];
+    seats = 0;
+    next = 0;
+    awaited = 0;
+    fixed = [];
+    handed = [];
+    spots = [];
+    refused = [];
+  }
 
   -- what a pass knows that was just made, of so many objects with these fixed numbers, none of which is awaited
   abbrev pub opening : ℕ → ℕ → ℕ → ℕ → List ℕ → View E
-  opening number next seats awaited fixed = record { number = number; numbers = number ∷ []; seats = seats; next = next; awaited = awaited; fixed = fixed; handed = []; spots = replicate (length fixed) blank; refused = [] }
+  opening number next seats awaited fixed = record {
+    number = number;
+    numbers = number ∷ [];
+    seats = seats;
+    next = next;
+    awaited = awaited;
+    fixed = fixed;
+    handed = [];
+    spots = replicate (length fixed) blank;
+    refused = [];
+  }

@@ -1,9 +1,10 @@
 //! Closing a desk: all passes are joined into one, and then no object is out with any.
 ghost use Rattle.std.specs.Prelude.{◌≡◌, ℕ, ◌⊎◌, ◌+◌, ◌<◌, ◌≤◌, [], All, Contains, Some, length, map, vec_len, vec_capacity};
 ghost use Rattle.std.specs.Slots.{slots_items, slots_len, IsFull};
-ghost use Rattle.turn_desk.specs.Closing.{numbers_of, views_of, HoldsNothing, own_total, front_of, Gathers, AtEach, AllFilled};
-ghost use Rattle.turn_desk.specs.Passes.{fixed_at};
-ghost use Rattle.turn_desk.specs.View.{Extends, spot};
+ghost use Rattle.turn_desk.specs.Closing.{numbers_of, views_of, HoldsNothing, own_total, front_of, Gathers, AtEachObject, AllFilled};
+ghost use Rattle.turn_desk.specs.Passes.{fixed_at, object_count};
+ghost use Rattle.love_base.specs.Prefix.{IsPrefix};
+ghost use Rattle.turn_desk.specs.View.{spot};
 
 use crate::desk::Desk;
 use crate::fronts::Fronts;
@@ -13,7 +14,7 @@ use crate::plays::{DeskTable, GiveUp, TurnSeat};
 use atomic_table::Closed;
 use std::alloc::Global;
 
-/// Joins all passes into the seat of the last, and puts each one's fronts into its row.
+// Joins all passes into the seat of the last, and puts each one's fronts into its row.
 fn join_all<O: Logged>(
     table: &DeskTable<O>,
     rows: &mut Vec<Vec<u32>>,
@@ -54,7 +55,7 @@ fn join_all<O: Logged>(
     seat
 }
 
-/// Takes the objects out of their slots, in order.
+// Takes the objects out of their slots, in order.
 fn take_all<O>(mut closed: Closed<Option<O>, Global>, mut objects: Vec<O>) -> Vec<O>
     requires full { IsFull closed.slots }
     requires home { AllFilled (slots_items closed.slots) }
@@ -69,30 +70,32 @@ fn take_all<O>(mut closed: Closed<Option<O>, Global>, mut objects: Vec<O>) -> Ve
 }
 
 impl<O: Logged> Desk<O> {
-    /// Gives each object back, in order, and the front of each pass at each object. Takes no memory.
+    /// Gives each object back, in order, and the front of each pass at each object. Takes no
+    /// memory.
     ///
     /// All of the desk's passes are given back to it, in any order, and none of them has an object.
     pub fn close(self, passes: Vec<Pass<O>>) -> (Vec<O>, Fronts)
         requires own { All (λ p. p.desk ≡ self) passes.items }
         requires free { All (λ p. HoldsNothing p.view) passes.items }
         requires all { (n : ℕ) → 0 < n → n ≤ self.seats → Contains (numbers_of passes.items) n }
-        ensures count { vec_len result.0 ≡ self.table.slots }
-        ensures replay { AtEach result.0.items
+        ensures count { vec_len result.0 ≡ object_count self }
+        ensures replay { AtEachObject result.0.items
             (λ o x. All (λ p. x ≡ O.replay (fixed_at p.view o) (O.history x)) passes.items) }
-        ensures fixed { AtEach result.0.items
+        ensures fixed { AtEachObject result.0.items
             (λ o x. All (λ p. O.fixed_number x ≡ fixed_at p.view o) passes.items) }
-        ensures seen { AtEach result.0.items
-            (λ o x. All (λ p. Extends (spot p.view o).known (O.history x)) passes.items) }
-        ensures once { AtEach result.0.items (λ o x. (place : ℕ) → 0 < place
+        ensures seen { AtEachObject result.0.items
+            (λ o x. All (λ p. IsPrefix (spot p.view o).known (O.history x)) passes.items) }
+        ensures once { AtEachObject result.0.items (λ o x. (place : ℕ) → 0 < place
             → place ≤ length (O.history x) → own_total o place passes.items ≡ 1) }
-        ensures no_other { AtEach result.0.items (λ o x. (place : ℕ)
+        ensures no_other { AtEachObject result.0.items (λ o x. (place : ℕ)
             → (place ≡ 0) ⊎ (length (O.history x) < place) → own_total o place passes.items ≡ 0) }
         ensures rows { (length result.1 ≡ self.seats)
-            × All (λ row. length row ≡ self.table.slots) result.1 }
+            × All (λ row. length row ≡ object_count self) result.1 }
         ensures fronts { All (λ p. (o : ℕ)
             → front_of result.1 p.view.number o ≡ (spot p.view o).front) passes.items }
-        ensures within { AtEach result.0.items
-            (λ o x. All (λ p. front_of result.1 p.view.number o ≤ length (O.history x)) passes.items) }
+        ensures within { AtEachObject result.0.items
+            (λ o x. All (λ p. front_of result.1 p.view.number o ≤ length (O.history x))
+            passes.items) }
     {
         let Desk {
             table,

@@ -1,8 +1,9 @@
 ghost use Rattle.std.specs.Prelude.{◌≡◌, ◌≢◌, ◌<◌, ◌≤◌, ◌^◌, true, IfOk, IfErr, length};
 ghost use Rattle.turn_desk.specs.declared.view.Phase.TheVariants.{Free, Taken};
-ghost use Rattle.turn_desk.specs.View.{Extends, spot, taken, refused, published, freed};
+ghost use Rattle.love_base.specs.Prefix.{IsPrefix};
+ghost use Rattle.turn_desk.specs.View.{spot, taken, refused, published, freed};
 ghost use Rattle.turn_desk.specs.Steps.{Continues, HasTaken, IsOther, TakesAfterRefusals};
-ghost use Rattle.turn_desk.specs.Passes.{fixed_at};
+ghost use Rattle.turn_desk.specs.Passes.{fixed_at, object_count};
 
 use crate::held::{Busy, Held};
 use crate::kept::{place_of, turn_by};
@@ -12,13 +13,14 @@ use crate::plays::{DeskTable, Give, Publish, Said, Take, TurnSeat};
 use std::marker::{Brand, Model};
 use std::sync::Wait;
 
-/// Objects that threads take in turn: 1 to 1,026, numbered from 0. Threads share the desk by reference.
+/// Objects that threads take in turn: 1 to 1,026, numbered from 0. Threads share the desk by
+/// reference.
 #[derive(Drop)]
 pub struct Desk<O: Logged> {
     pub(crate) table: DeskTable<O>,
-    /// Room for the objects that `close` gives.
+    // Room for the objects that `close` gives.
     pub(crate) room: Vec<O>,
-    /// Room for the fronts that `close` gives: a row for each pass.
+    // Room for the fronts that `close` gives: a row for each pass.
     pub(crate) rows: Vec<Vec<u32>>,
 }
 
@@ -30,20 +32,26 @@ impl<O: Logged> Model for Desk<O> {
 
     ghost view = { λ d. record { table = d.table.shared.table_id; seats = length d.rows.items } };
 
-    ghost invariant = { λ d. (d.table.shared.table_id.words ≡ 2 * d.table.shared.table_id.slots) × (d.room.items ≡ []) × (d.table.shared.table_id.slots ≤ vec_capacity d.room) × (0 < length d.rows.items) × (0 < d.table.shared.table_id.slots) };
+    ghost invariant = { λ d.
+        (d.table.shared.table_id.words ≡ 2 * d.table.shared.table_id.slots)
+        × (d.room.items ≡ [])
+        × (d.table.shared.table_id.slots ≤ vec_capacity d.room)
+        × (0 < length d.rows.items)
+        × (0 < d.table.shared.table_id.slots) };
 }
 
 impl<O: Logged> Desk<O> {
-    /// Takes an object, if no other pass has it, in one atomic step. Its history is neither copied nor
-    /// walked. The pass is one of this desk, and doesn't have the object.
+    /// Takes an object, if no other pass has it, in one atomic step. Its history is neither copied
+    /// nor walked. The pass is one of this desk, and doesn't have the object.
     ///
     /// # Errors
     ///
-    /// The number of the pass that had it when this one asked. The refusal is noted, and nothing else changes.
+    /// The number of the pass that had it when this one asked. The refusal is noted, and nothing
+    /// else changes.
     #[tactic(auto, using(crate::proofs::Keeping::keeps_here))]
     pub fn try_hold(&self, pass: &mut Pass<O>, object: u32) -> Result<Held<O>, Busy>
         requires own { pass.old.desk ≡ self.now }
-        requires object { object < self.now.table.slots }
+        requires object { object < object_count self.now }
         requires free { (spot pass.old.view object).phase ≡ Free }
         ensures own { pass.new.desk ≡ pass.old.desk }
         ensures object { IfOk result (λ h. h.object ≡ object) }
@@ -72,15 +80,16 @@ impl<O: Logged> Desk<O> {
         Ok(Held { object, value })
     }
 
-    /// Takes an object, and waits while another pass has it. Whether a wait ends is up to the other threads.
-    /// Each pass that it waits for is noted, as `try_hold` notes a refusal.
+    /// Takes an object, and waits while another pass has it. Whether a wait ends is up to the other
+    /// threads. Each pass that it waits for is noted, as `try_hold` notes a refusal.
     pub fn hold<R: Wait>(&self, rt: &R, pass: &mut Pass<O>, object: u32) -> Held<O>
         requires own { pass.old.desk ≡ self.now }
-        requires object { object < self.now.table.slots }
+        requires object { object < object_count self.now }
         requires free { (spot pass.old.view object).phase ≡ Free }
         ensures own { pass.new.desk ≡ pass.old.desk }
         ensures object { result.object ≡ object }
-        ensures taken { TakesAfterRefusals pass.old.view object (O.history result.value) pass.new.view }
+        ensures taken { TakesAfterRefusals
+            pass.old.view object (O.history result.value) pass.new.view }
         ensures kept { HasTaken pass.new.view object (O.history result.value) }
         ensures seen { Continues pass.old.view object (O.history result.value) }
         ensures replay { result.value
@@ -97,14 +106,14 @@ impl<O: Logged> Desk<O> {
         unreachable!()
     }
 
-    /// Writes the new tally. From this step on the object's history is published.
+    // Writes the new tally. From this step on the object's history is published.
     fn publish<W: Said<O::Entry>>(&self, seat: &mut TurnSeat<O>, slot: usize, value: &O)
         requires own { seat.old.table_id ≡ self.now.table }
-        requires slot { slot < self.now.table.slots }
+        requires slot { slot < object_count self.now }
         requires said { (W.object ≡ slot) × (W.log ≡ O.history value.now) }
         requires taken { (spot seat.old.me.0 slot).phase ≡ Taken }
         requires ready { seat.old.me.0.awaited ≡ 0 }
-        requires grown { Extends (spot seat.old.me.0 slot).known (O.history value.now) }
+        requires grown { IsPrefix (spot seat.old.me.0 slot).known (O.history value.now) }
         requires between { O.between (O.history value.now) ≡ true }
         ensures own { (seat.new.table_id ≡ seat.old.table_id) × (seat.new.id ≡ seat.old.id) }
         ensures published { seat.new.me ≡ (
@@ -117,17 +126,17 @@ impl<O: Logged> Desk<O> {
         self.table.shared.swap::<Publish<W>>(seat, word, tally);
     }
 
-    /// Publishes what was changed in one atomic step, gives the object back in another, and wakes those
-    /// that wait for it, by one call of the system even where none do. Turning to the object's slot costs as
-    /// much as this pass has objects.
+    /// Publishes what was changed in one atomic step, gives the object back in another, and wakes
+    /// those that wait for it, by one call of the system even where none do. Turning to the
+    /// object's slot costs as much as this pass has objects.
     ///
-    /// The object is one that this pass has. The history that it was taken with begins its history now, its
-    /// fixed number is the same, and nobody is inside a section.
+    /// The object is one that this pass has. The history that it was taken with begins its history
+    /// now, its fixed number is the same, and nobody is inside a section.
     pub fn release(&self, pass: &mut Pass<O>, held: Held<O>)
         requires own { pass.old.desk ≡ self.now }
-        requires object { held.object < self.now.table.slots }
+        requires object { held.object < object_count self.now }
         requires taken { (spot pass.old.view held.object).phase ≡ Taken }
-        requires grown { Extends (spot pass.old.view held.object).known (O.history held.value) }
+        requires grown { IsPrefix (spot pass.old.view held.object).known (O.history held.value) }
         requires fixed { O.fixed_number held.value ≡ fixed_at pass.old.view held.object }
         requires between { O.between (O.history held.value) ≡ true }
         ensures own { pass.new.desk ≡ pass.old.desk }

@@ -2,8 +2,8 @@ ghost use Rattle.std.specs.Prelude.{◌≡◌};
 
 use crate::logged::Logged;
 
-/// An object in the keeping of one pass, from the take until it is released. One that is dropped instead is
-/// lost: its turn never comes free again, and the desk can't be closed.
+/// An object in the keeping of one pass, from the take until it is released. One that is dropped
+/// instead is lost: its turn never comes free again, and the desk can't be closed.
 #[derive(Drop)]
 pub struct Held<O: Logged> {
     /// Which of the desk's objects it is, counted from 0.

@@ -1,10 +1,10 @@
-//! The slots that a seat keeps lie in a row, of which it reaches the first alone. Turning the row is no
-//! step: it changes no word and no view.
+//! The slots that a seat keeps lie in a row, of which it reaches the first alone. Turning the row
+//! is no step: it changes no word and no view.
 ghost use Rattle.std.specs.Prelude.{◌≡◌, ◌<◌, ◌≤◌, ◌++◌, length, take, drop, slice_index, Contains};
 
 use atomic_table::Seat;
 
-/// The place of an object among those that are kept.
+// The place of an object among those that are kept.
 pub(crate) fn place_of(kept: &[u32], object: u32) -> usize
     requires { Contains kept.now object }
     ensures within { result < length kept.now }
@@ -18,7 +18,7 @@ pub(crate) fn place_of(kept: &[u32], object: u32) -> usize
     unreachable!()
 }
 
-/// Turns the row so that what was the n-th slot, counted from 0, is the first.
+// Turns the row so that what was the n-th slot, counted from 0, is the first.
 pub(crate) fn turn_by<S, V>(seat: &mut Seat<S, V>, n: usize)
     requires { n ≤ length seat.old.me.1 }
     ensures same { (seat.new.table_id ≡ seat.old.table_id) × (seat.new.id ≡ seat.old.id)

@@ -3,11 +3,11 @@ ghost use Rattle.love_base.specs.declared.stamp.Stamp.{Stamp as StampValue};
 
 use love_base::Stamp;
 
-/// An object that a desk can share: it keeps the history of its own changes, and is what that history
-/// makes of it.
+/// An object that a desk can share: it keeps the history of its own changes, and is what that
+/// history makes of it.
 ///
-/// No change of such an object alters its fixed number or the entries that it had before; who changes
-/// one by a [`crate::Held`] owes that to [`crate::Desk::release`].
+/// No change of such an object alters its fixed number or the entries that it had before; who
+/// changes one by a [`crate::Held`] owes that to [`crate::Desk::release`].
 pub trait Logged: Drop {
     /// One change of the object.
     type Entry;

@@ -1,7 +1,8 @@
-//! Making a desk: its table is vacant at first, the number of passes is brought, then each object is put
-//! in with its fixed number, and then the passes are made.
+//! Making a desk: its table is vacant at first, the number of passes is brought, then each object
+//! is put in with its fixed number, and then the passes are made.
 ghost use Rattle.std.specs.Prelude.{◌≡◌, ◌≢◌, ◌<◌, ◌≤◌, ◌+◌, ◌*◌, true, [], ◌∷◌, ◌++◌, All, IfOk, length, map, replicate, vec_len, vec_capacity};
 ghost use Rattle.turn_desk.specs.declared.view.Phase.TheVariants.{Free};
+ghost use Rattle.turn_desk.specs.Passes.{object_count};
 ghost use Rattle.turn_desk.specs.View.{spot, taken, brought, freed, seated, opening};
 ghost use Rattle.turn_desk.specs.Opening.{IsNew, opening_passes};
 
@@ -14,7 +15,8 @@ use love_base::Memory;
 use std::alloc::Global;
 use std::marker::Brand;
 
-/// The words of a desk of free objects with empty histories: a turn word for each, then a tally word.
+// The words of a desk of free objects with empty histories: a turn word for each, then a tally
+// word.
 fn free_words(alloc: Global, objects: usize, summary: u64) -> Result<Vec<u64>, Memory>
     ensures { IfOk result
         (λ words. words.items ≡ replicate objects 0 ++ replicate objects summary) }
@@ -26,7 +28,7 @@ fn free_words(alloc: Global, objects: usize, summary: u64) -> Result<Vec<u64>, M
     Ok(words)
 }
 
-/// An empty row for the fronts of each pass.
+// An empty row for the fronts of each pass.
 fn empty_rows(alloc: Global, seats: usize) -> Result<Vec<Vec<u32>>, Memory>
     ensures { IfOk result (λ rows. vec_len rows ≡ seats) }
 {
@@ -37,7 +39,7 @@ fn empty_rows(alloc: Global, seats: usize) -> Result<Vec<Vec<u32>>, Memory>
     Ok(rows)
 }
 
-/// Brings the number of passes into the first view. It is passed for the proof alone.
+// Brings the number of passes into the first view. It is passed for the proof alone.
 fn bring_seats<O: Logged, W: Said<O::Entry>>(
     table: &DeskTable<O>,
     seat: &mut TurnSeat<O>,
@@ -55,7 +57,7 @@ fn bring_seats<O: Logged, W: Said<O::Entry>>(
     table.shared.load::<BringSeats<W>>(seat, 0);
 }
 
-/// Puts an object in, with its fixed number.
+// Puts an object in, with its fixed number.
 fn put_in<O: Logged, W: Said<O::Entry>>(
     table: &DeskTable<O>,
     seat: &mut TurnSeat<O>,
@@ -74,7 +76,10 @@ fn put_in<O: Logged, W: Said<O::Entry>>(
     requires free { (spot seat.old.me.0 object).phase ≡ Free }
     ensures own { seat.new.table_id ≡ seat.old.table_id }
     ensures put { seat.new.me
-        ≡ (freed object (brought object (O.fixed_number value) (taken object [] seat.old.me.0)), seat.old.me.1) }
+        ≡ (
+          freed object (brought object (O.fixed_number value) (taken object [] seat.old.me.0)),
+          seat.old.me.1,
+        ) }
 {
     table
         .shared
@@ -84,7 +89,7 @@ fn put_in<O: Logged, W: Said<O::Entry>>(
     table.shared.swap::<Give>(seat, object, 0);
 }
 
-/// Puts all objects in, the last first.
+// Puts all objects in, the last first.
 fn put_all<O: Logged>(table: &DeskTable<O>, seat: &mut TurnSeat<O>, mut objects: Vec<O>)
     requires own { seat.old.table_id ≡ table.now.shared.table_id }
     requires count { (vec_len objects ≡ table.now.shared.table_id.slots)
@@ -107,7 +112,7 @@ fn put_all<O: Logged>(table: &DeskTable<O>, seat: &mut TurnSeat<O>, mut objects:
     }
 }
 
-/// The pass of a seat that was just made, with room for what it will have.
+// The pass of a seat that was just made, with room for what it will have.
 fn make_pass<O: Logged>(
     alloc: Global,
     seat: TurnSeat<O>,
@@ -136,7 +141,7 @@ fn make_pass<O: Logged>(
     })
 }
 
-/// Makes the passes. The first one's seat makes the others.
+// Makes the passes. The first one's seat makes the others.
 fn deal<O: Logged>(
     alloc: Global,
     table: &DeskTable<O>,
@@ -168,8 +173,8 @@ fn deal<O: Logged>(
 }
 
 impl<O: Logged> Desk<O> {
-    /// A desk of 1 to 1,026 objects and its 1 to 17 passes, numbered from 1, in order. The objects have empty
-    /// histories and stay in their order, and `seats` is the number of passes.
+    /// A desk of 1 to 1,026 objects and its 1 to 17 passes, numbered from 1, in order. The objects
+    /// have empty histories and stay in their order, and `seats` is the number of passes.
     ///
     /// Takes the room for all that the desk's other calls need.
     ///
@@ -185,7 +190,7 @@ impl<O: Logged> Desk<O> {
         requires seats { (0 < seats) × (seats ≤ 17) }
         requires fresh { All (λ x. O.history x ≡ []) objects.items }
         requires between { All (λ x. O.between (O.history x) ≡ true) objects.items }
-        ensures objects { IfOk result (λ made. made.0.table.slots ≡ vec_len objects) }
+        ensures objects { IfOk result (λ made. object_count made.0 ≡ vec_len objects) }
         ensures seats { IfOk result (λ made. made.0.seats ≡ seats) }
         ensures passes { IfOk result
             (λ made. made.1.items ≡ opening_passes made.0 (map O.fixed_number objects.items)) }

@@ -10,7 +10,7 @@ use atomic_table::{Join, Play, Seat, Split, Table, TableRule};
 use std::alloc::Global;
 use std::marker::{Brand, PhantomData};
 
-/// The rule of a desk. The key is the number of objects.
+// The rule of a desk. The key is the number of objects.
 pub(crate) struct Turns;
 
 pub(crate) type DeskTable<O> = Table<Option<O>, View<<O as Logged>::Entry>, usize, Turns, Global>;
@@ -23,7 +23,7 @@ impl<O: Logged> TableRule<Option<O>, View<O::Entry>, usize> for Turns {
     ghost first = { λ objects. opening 1 2 0 objects (replicate objects 0) };
 }
 
-/// What a step says beside the number that it writes, for the proof alone.
+// What a step says beside the number that it writes, for the proof alone.
 pub(crate) trait Said<E> {
     ghost object: { ℕ };
 
@@ -40,7 +40,7 @@ impl<E> Said<E> for Brand {
     ghost log = { [] };
 }
 
-/// Set up: the number of passes is brought into the first view.
+// Set up: the number of passes is brought into the first view.
 pub(crate) struct BringSeats<W> {
     said: PhantomData<W>,
 }
@@ -49,7 +49,7 @@ impl<O: Logged, W: Said<O::Entry>> Play<Option<O>, View<O::Entry>> for BringSeat
     ghost then = { seats_brought W.number };
 }
 
-/// Set up: the fixed number of an object is brought into the first view.
+// Set up: the fixed number of an object is brought into the first view.
 pub(crate) struct BringNumber<W> {
     said: PhantomData<W>,
 }
@@ -58,21 +58,21 @@ impl<O: Logged, W: Said<O::Entry>> Play<Option<O>, View<O::Entry>> for BringNumb
     ghost then = { number_brought W.object W.number };
 }
 
-/// The take of an object that hasn't been put in yet.
+// The take of an object that hasn't been put in yet.
 pub(crate) struct TakeVacant;
 
 impl<O: Logged> Play<Option<O>, View<O::Entry>> for TakeVacant {
     ghost then = { took_vacant };
 }
 
-/// Take.
+// Take.
 pub(crate) struct Take;
 
 impl<O: Logged> Play<Option<O>, View<O::Entry>> for Take {
     ghost then = { took O.history O.fixed_number O.between };
 }
 
-/// Publish.
+// Publish.
 pub(crate) struct Publish<W> {
     said: PhantomData<W>,
 }
@@ -81,14 +81,14 @@ impl<O: Logged, W: Said<O::Entry>> Play<Option<O>, View<O::Entry>> for Publish<W
     ghost then = { put_out W.object W.log };
 }
 
-/// Give.
+// Give.
 pub(crate) struct Give;
 
 impl<O: Logged> Play<Option<O>, View<O::Entry>> for Give {
     ghost then = { gave };
 }
 
-/// Split: a pass is made.
+// Split: a pass is made.
 pub(crate) struct MakeOne;
 
 impl<E> Split<View<E>> for MakeOne {
@@ -97,7 +97,7 @@ impl<E> Split<View<E>> for MakeOne {
     ghost right = { newcomer };
 }
 
-/// Join: a pass is given up.
+// Join: a pass is given up.
 pub(crate) struct GiveUp;
 
 impl<E> Join<View<E>> for GiveUp {

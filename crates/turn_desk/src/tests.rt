@@ -1,6 +1,7 @@
 //! Turns over ledgers, each a list of stamps of one of two kinds.
 ghost use Rattle.std.specs.Prelude.{◌≡◌, ◌≢◌, ℕ, ◌+◌, ◌==◌, ◌<◌, ◌≤◌, ◌^◌, List, [], ◌∷◌, ◌++◌, All, Contains, IfOk, length, map, true, vec_len, if◌then◌else◌, refl};
-ghost use Rattle.turn_desk.specs.View.{Extends};
+ghost use Rattle.love_base.specs.Prefix.{IsPrefix};
+ghost use Rattle.turn_desk.specs.Passes.{object_count};
 ghost use Rattle.turn_desk.specs.Closing.{AreNumbered, HoldsNothing, IsReady};
 
 use crate::{Bell, Busy, Desk, Fronts, Logged, Pass};
@@ -43,9 +44,9 @@ impl Stamps {
         self.items.len() as u32
     }
 
-    /// Adds a stamp, if there is memory for it.
+    // Adds a stamp, if there is memory for it.
     fn add(&mut self, stamp: Stamp)
-        ensures { Extends self.old self.new }
+        ensures { IsPrefix self.old self.new }
     {
         if self.items.len() < 4_000_000 {
             let _full = self.items.push(stamp).is_err();
@@ -112,8 +113,10 @@ impl Ledger {
     }
 
     fn add(&mut self, stamp: Stamp)
-        ensures grown { Extends (⟦<Ledger as Logged>⟧.history self.old) (⟦<Ledger as Logged>⟧.history self.new) }
-        ensures fixed { ⟦<Ledger as Logged>⟧.fixed_number self.new ≡ ⟦<Ledger as Logged>⟧.fixed_number self.old }
+        ensures grown { IsPrefix
+            (⟦<Ledger as Logged>⟧.history self.old) (⟦<Ledger as Logged>⟧.history self.new) }
+        ensures fixed { ⟦<Ledger as Logged>⟧.fixed_number self.new
+            ≡ ⟦<Ledger as Logged>⟧.fixed_number self.old }
     {
         match self {
             Ledger::Main(stamps) => stamps.add(stamp),
@@ -122,10 +125,10 @@ impl Ledger {
     }
 }
 
-/// One turn: takes an object, adds a stamp and gives the object back.
+// One turn: takes an object, adds a stamp and gives the object back.
 fn turn<R: Wait>(rt: &R, desk: &Desk<Ledger>, pass: &mut Pass<Ledger>, object: u32, stamp: Stamp)
     requires ready { IsReady desk.now pass.old }
-    requires object { object < desk.now.table.slots }
+    requires object { object < object_count desk.now }
     ensures ready { IsReady desk.now pass.new }
     ensures number { pass.new.view.number ≡ pass.old.view.number }
 {
@@ -134,11 +137,12 @@ fn turn<R: Wait>(rt: &R, desk: &Desk<Ledger>, pass: &mut Pass<Ledger>, object: u
     desk.release(pass, held);
 }
 
-/// Takes the three objects in order, adds a stamp to each, and gives them back in an order of its own.
+// Takes the three objects in order, adds a stamp to each, and gives them back in an order of its
+// own.
 #[tactic(auto, using(crate::proofs::Ready::takes_else, crate::proofs::Ready::takes_fixed, crate::proofs::Ready::takes_number, crate::proofs::Ready::released_else, crate::proofs::Ready::released_free, crate::proofs::Ready::released_all))]
 fn three<R: Wait>(rt: &R, desk: &Desk<Ledger>, pass: &mut Pass<Ledger>, stamp: Stamp)
     requires ready { IsReady desk.now pass.old }
-    requires objects { desk.now.table.slots ≡ 3 }
+    requires objects { object_count desk.now ≡ 3 }
     ensures ready { IsReady desk.now pass.new }
     ensures number { pass.new.view.number ≡ pass.old.view.number }
 {
@@ -153,7 +157,7 @@ fn three<R: Wait>(rt: &R, desk: &Desk<Ledger>, pass: &mut Pass<Ledger>, stamp: S
     desk.release(pass, third);
 }
 
-/// Takes so many turns: at all objects at once, or at the first.
+// Takes so many turns: at all objects at once, or at the first.
 fn turns<R: Wait>(
     rt: &R,
     desk: &Desk<Ledger>,
@@ -162,7 +166,7 @@ fn turns<R: Wait>(
     count: u32,
 ) -> Pass<Ledger>
     requires ready { IsReady desk.now pass }
-    requires objects { desk.now.table.slots ≡ 3 }
+    requires objects { object_count desk.now ≡ 3 }
     ensures ready { IsReady desk.now result }
     ensures number { result.view.number ≡ pass.view.number }
 {
@@ -178,10 +182,10 @@ fn turns<R: Wait>(
     pass
 }
 
-/// Takes an object and gives it back, or tells whose number was found.
+// Takes an object and gives it back, or tells whose number was found.
 fn try_turn(desk: &Desk<Ledger>, pass: &mut Pass<Ledger>, object: u32) -> Option<u32>
     requires ready { IsReady desk.now pass.old }
-    requires object { object < desk.now.table.slots }
+    requires object { object < object_count desk.now }
     ensures ready { IsReady desk.now pass.new }
 {
     match desk.try_hold(pass, object) {
@@ -193,18 +197,18 @@ fn try_turn(desk: &Desk<Ledger>, pass: &mut Pass<Ledger>, object: u32) -> Option
     }
 }
 
-/// What two passes meet with while the first has an object.
+// What two passes meet with while the first has an object.
 #[derive(Debug, PartialEq, Eq, Drop)]
 struct Meeting {
-    /// What the first pass took, and whether it had no history.
+    // What the first pass took, and whether it had no history.
     taken: u32,
     empty: bool,
-    /// Whose number the second pass found there, and at the next object.
+    // Whose number the second pass found there, and at the next object.
     found: Option<u32>,
     next: Option<u32>,
 }
 
-/// Lets the second pass try while the first has an object.
+// Lets the second pass try while the first has an object.
 fn meets(
     desk: &Desk<Ledger>,
     first: &mut Pass<Ledger>,
@@ -212,7 +216,7 @@ fn meets(
 ) -> Option<Meeting>
     requires first { IsReady desk.now first.old }
     requires second { IsReady desk.now second.old }
-    requires objects { desk.now.table.slots ≡ 3 }
+    requires objects { object_count desk.now ≡ 3 }
 {
     let Ok(held) = desk.try_hold(first, 0) else {
         return None;
@@ -230,11 +234,11 @@ fn meets(
     })
 }
 
-/// A desk of three empty ledgers.
+// A desk of three empty ledgers.
 #[tactic(auto, using(crate::proofs::Ready::opening_ready, crate::proofs::Ready::opening_numbered, crate::proofs::Ready::opening_count))]
 fn opened(alloc: Global, seats: u32) -> Result<(Desk<Ledger>, Vec<Pass<Ledger>>), Memory>
     requires seats { (0 < seats) × (seats ≤ 17) }
-    ensures objects { IfOk result (λ made. made.0.table.slots ≡ 3) }
+    ensures objects { IfOk result (λ made. object_count made.0 ≡ 3) }
     ensures ready { IfOk result (λ made. All (IsReady made.0) made.1.items) }
     ensures numbered { IfOk result (λ made. AreNumbered made.1.items) }
     ensures all { IfOk result (λ made. length made.1.items ≡ made.0.seats) }
@@ -247,19 +251,19 @@ fn opened(alloc: Global, seats: u32) -> Result<(Desk<Ledger>, Vec<Pass<Ledger>>)
     Desk::new(alloc, ledgers, seats)
 }
 
-/// Closes a desk to which all passes are given back.
+// Closes a desk to which all passes are given back.
 fn closed(desk: Desk<Ledger>, passes: Vec<Pass<Ledger>>) -> (Vec<Ledger>, Fronts)
     requires ready { All (IsReady desk) passes.items }
     requires numbered { AreNumbered passes.items }
     requires all { vec_len passes ≡ desk.seats }
-    ensures count { vec_len result.0 ≡ desk.table.slots }
+    ensures count { vec_len result.0 ≡ object_count desk }
     ensures seats { length result.1 ≡ desk.seats }
-    ensures rows { All (λ row. length row ≡ desk.table.slots) result.1 }
+    ensures rows { All (λ row. length row ≡ object_count desk) result.1 }
 {
     desk.close(passes)
 }
 
-/// As many threads as there are passes take turns.
+// As many threads as there are passes take turns.
 fn crowd<R: Threads + Wait + Sync>(
     rt: &R,
     desk: &Desk<Ledger>,
@@ -269,7 +273,7 @@ fn crowd<R: Threads + Wait + Sync>(
 ) -> Result<Vec<Pass<Ledger>>, AllocError>
     requires ready { All (IsReady desk.now) passes.items }
     requires numbered { AreNumbered passes.items }
-    requires objects { desk.now.table.slots ≡ 3 }
+    requires objects { object_count desk.now ≡ 3 }
     ensures ready { IfOk result (λ back. All (IsReady desk.now) back.items) }
     ensures numbered { IfOk result (λ back. AreNumbered back.items) }
     ensures len { IfOk result (λ back. vec_len back ≡ vec_len passes) }
@@ -278,13 +282,13 @@ fn crowd<R: Threads + Wait + Sync>(
         rt,
         passes,
         &|pass: Pass<Ledger>| -> Pass<Ledger>
-            requires { IsReady desk.now pass × (desk.now.table.slots ≡ 3) }
+            requires { IsReady desk.now pass × (object_count desk.now ≡ 3) }
             ensures { IsReady desk.entry.now result × (result.view.number ≡ pass.view.number) }
         { turns(rt, desk, pass, nested, count) },
     )
 }
 
-/// Whether the numbers of this state's stamps are those below the count, in order.
+// Whether the numbers of this state's stamps are those below the count, in order.
 fn in_order(stamps: &[Stamp], state: u32, count: u32) -> bool {
     let mut next = 0u64;
     let mut ordered = true;
@@ -297,7 +301,7 @@ fn in_order(stamps: &[Stamp], state: u32, count: u32) -> bool {
     ordered && next == u64::from(count)
 }
 
-/// A desk at which so many threads took so many turns each, closed.
+// A desk at which so many threads took so many turns each, closed.
 fn after_turns<R: Threads + Wait + Sync>(
     rt: &R,
     alloc: Global,

@@ -6,8 +6,8 @@ use std::alloc::Global;
 
 /// A message: a Lua value that refers to nothing in the state that sent it.
 ///
-/// These are the kinds of values that a Channel carries (LÖVE wiki, `Channel:push`): a message is a value of its own,
-/// so that states share nothing by it.
+/// These are the kinds of values that a Channel carries (LÖVE wiki, `Channel:push`): a message is a
+/// value of its own, so that states share nothing by it.
 #[derive(Debug, Drop)]
 pub enum Variant {
     /// `nil`. It is a message like the others: that there is none is an answer of the Channel.

@@ -2,7 +2,7 @@ use crate::{List, Memory, Text};
 use std::alloc::Global;
 use std::test::Fail;
 
-/// The items in reverse order, by the calls of a list alone.
+// The items in reverse order, by the calls of a list alone.
 fn reversed<T: Clone + Drop>(alloc: Global, items: &List<T>) -> Result<List<T>, Fail> {
     let mut backwards = List::new(alloc);
     for place in 0..items.len() {

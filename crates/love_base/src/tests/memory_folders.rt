@@ -6,9 +6,10 @@ use crate::{Folder, FolderErr, MemFolder, Memory, QuietFolder, Text};
 use std::alloc::Global;
 use std::test::Fail;
 
-/// Two files, one of them empty.
+// Two files, one of them empty.
 fn game(alloc: Global) -> Result<Vec<(Text, Vec<u8>)>, Memory>
-    ensures { IfOk result (λ files. stored files.items ≡ (codes "main.lua", codes "return") ∷ (codes "a/b.lua", []) ∷ []) }
+    ensures { IfOk result (λ files.
+        stored files.items ≡ (codes "main.lua", codes "return") ∷ (codes "a/b.lua", []) ∷ []) }
 {
     let mut files = Vec::new(alloc);
     let main = Vec::from_slice(alloc, b"return")?;
@@ -17,7 +18,7 @@ fn game(alloc: Global) -> Result<Vec<(Text, Vec<u8>)>, Memory>
     Ok(files)
 }
 
-/// What a folder answers to a listing, a reading of each of two files, and a listing.
+// What a folder answers to a listing, a reading of each of two files, and a listing.
 #[derive(Debug, Drop)]
 struct Answers {
     first: Result<Vec<Text>, FolderErr>,
@@ -27,8 +28,10 @@ struct Answers {
 }
 
 fn asked<F: Folder>(alloc: Global, folder: &mut F, at: &Text, one: &Text, other: &Text) -> Answers
-    requires one { ForSome (F.files folder.old) (λ files. IsSome (content files one.now)) }
-    requires other { ForSome (F.files folder.old) (λ files. IsSome (content files other.now)) }
+    requires one { ForSome (F.files folder.old at.now)
+        (λ files. IsSome (content files one.now)) }
+    requires other { ForSome (F.files folder.old at.now)
+        (λ files. IsSome (content files other.now)) }
 {
     let first = folder.list(alloc, at);
     let one = folder.read(alloc, at, one);

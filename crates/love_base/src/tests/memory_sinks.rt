@@ -3,7 +3,7 @@ ghost use Rattle.std.specs.Prelude.{◌<◌, length};
 use crate::{CountSink, MemSink, Sink, SinkErr};
 use std::test::Fail;
 
-/// What a sink answers to one piece and then another.
+// What a sink answers to one piece and then another.
 fn written<S: Sink>(sink: &mut S, one: &[u8], other: &[u8]) -> [Result<usize, SinkErr>; 2]
     requires one { 0 < length one.now }
     requires other { 0 < length other.now }

@@ -6,7 +6,7 @@ use std::io;
 use std::io::ErrorKind;
 use std::test::Fail;
 
-/// An output whose every write takes so many bytes, or fails.
+// An output whose every write takes so many bytes, or fails.
 #[derive(Clone, Copy)]
 enum Output {
     Takes(usize),

@@ -3,7 +3,7 @@ use std::os::unix::fs::{PermissionsExt, symlink};
 use std::test::Fail;
 use std::{fs, process};
 
-/// A fresh folder below `/tmp`, which the test removes.
+// A fresh folder below `/tmp`, which the test removes.
 fn fresh_folder(rt: &HostRuntime, test: &str) -> Result<String, Fail> {
     let id = process::id(rt.process());
     let folder = format!(in rt.alloc(); "/tmp/love_base_{test}_{id}")?;
@@ -29,7 +29,7 @@ fn make_link(rt: &HostRuntime, root: &str, path: &str, to: &str) -> Result<(), F
     Ok(())
 }
 
-/// The paths that the real folder lists, each ended by a newline.
+// The paths that the real folder lists, each ended by a newline.
 fn listing(rt: &HostRuntime, at: &[u8]) -> Result<Result<String, FolderErr>, Fail> {
     let at = Text::of(rt.alloc(), at)?;
     let mut folder = RealFolder::new(rt.clone()?);
@@ -46,7 +46,7 @@ fn listing(rt: &HostRuntime, at: &[u8]) -> Result<Result<String, FolderErr>, Fai
     }
 }
 
-/// What the real folder reads.
+// What the real folder reads.
 fn reading(rt: &HostRuntime, at: &[u8], name: &[u8]) -> Result<Result<Vec<u8>, FolderErr>, Fail> {
     let at = Text::of(rt.alloc(), at)?;
     let name = Text::of(rt.alloc(), name)?;
@@ -178,7 +178,7 @@ fn reads_what_a_file_holds(rt: HostRuntime) -> Result<(), Fail> {
     Ok(())
 }
 
-/// The superuser may read all, so the test first sees whether the mode bars anything.
+// The superuser may read all, so the test first sees whether the mode bars anything.
 #[test]
 fn neither_reads_nor_lists_what_it_may_not(rt: HostRuntime) -> Result<(), Fail> {
     let root = fresh_folder(&rt, "barred")?;

@@ -14,7 +14,7 @@ fn a_text_keeps_any_bytes(rt: HostRuntime) -> Result<(), Fail> {
     Ok(())
 }
 
-/// The least of three, by the order of their type alone.
+// The least of three, by the order of their type alone.
 fn least<T: Ord + Drop>(first: T, second: T, third: T) -> T {
     first.min(second).min(third)
 }

@@ -26,7 +26,7 @@ impl Sink for Sizes {
     }
 }
 
-// A source that prints this many bytes, which is a multiple of 64 and of lines of 63 bytes, and some more.
+// A source that prints so many lines of 64 bytes each, and then what `last` prints.
 fn source_of(alloc: Global, lines: usize, last: &[u8]) -> Result<Vec<u8>, Fail> {
     let mut source = Vec::new(alloc);
     for _ in 0..lines {
@@ -61,16 +61,16 @@ fn pieces_have_4096_bytes(rt: HostRuntime) -> Result<(), Fail> {
     Ok(())
 }
 
-// A sink that takes one byte at a time gets all of 10,048 bytes.
+// A sink that takes one byte at a time gets all of 10,000 bytes.
 #[test]
 fn every_byte_is_written(rt: HostRuntime) -> Result<(), Fail> {
     let words = words(rt.alloc(), &[b"game"])?;
-    let source = source_of(rt.alloc(), 157, b"")?;
+    let source = source_of(rt.alloc(), 156, b"print(\"fifteen letters\")")?;
     let mut folder = folder(rt.alloc(), b"main.lua", source.as_slice(), &[])?;
     let mut sink = MemSink::new(rt.alloc(), 1, Vec::new(rt.alloc()));
     let report = love(rt.alloc(), words.as_slice(), &mut folder, &mut sink);
     assert_eq!(rt; report.status, DONE);
-    assert_eq!(rt; sink.taken().len(), 10_048);
+    assert_eq!(rt; sink.taken().len(), 10_000);
     assert_eq!(rt; sink.taken(), report.out.bytes());
     Ok(())
 }

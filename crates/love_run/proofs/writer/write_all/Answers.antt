@@ -1,4 +1,4 @@
-use Rattle.std.proofs.Common.{◌∙◌, ◌-◌, take, drop}
+use Rattle.std.proofs.Common.{◌∙◌, sym, ◌-◌, take, drop}
 use Rattle.std.proofs.lemmas.List.{take-append-drop}
 use Rattle.love_run.proofs.Writing.{on_err, piece_of, piece_within, piece_written}
 use Rattle.love_run.proofs.writer.write_all.Goals as goal
@@ -8,7 +8,7 @@ pub returns-in_err-written-clause-part : goal.returns-in_err-written-clause-part
 returns-in_err-written-clause-part g c =
     let out = c.args.out.now in
     let written = c.loop-written.written in
-    on_err c.from_residual.result (take written out, (drop written out, take-append-drop written out), c.in_err-written.ensures.refused ∙ c.loop-written.invariant.taken)
+    on_err c.from_residual.result (take written out, (drop written out, sym (take-append-drop written out)), c.in_err-written.ensures.refused ∙ c.loop-written.invariant.taken)
 
 pub loop-written-preserved : goal.loop-written-preserved
 loop-written-preserved g c =

@@ -1,10 +1,10 @@
 use Rattle.std.proofs.Common.{◌≡◌, ◌≤◌, take}
-use Rattle.lua_token.specs.Quoted.{decimal_value}
+use Rattle.std.specs.Str.Parse.{digits_value}
 use Rattle.lua_token.proofs.quoted.decimal_value.Given as goal
 
 abbrev pub invariant-loop-digit : goal.invariant-loop-digit
 invariant-loop-digit l = record {
-  value : l.value ≡ decimal_value (take l.digit-index l.digits);
+  value : l.value ≡ digits_value 10 (take l.digit-index l.digits);
   none : l.digit-index ≤ 0 → l.value ≤ 0;
   one : l.digit-index ≤ 1 → l.value ≤ 9;
   two : l.digit-index ≤ 2 → l.value ≤ 99;
