@@ -101,6 +101,7 @@ impl<O: Logged> Desk<O> {
             table,
             room,
             mut rows,
+            sleepers: _,
         } = self;
         let seat = join_all(&table, &mut rows, passes);
         let objects = take_all(table.close_with(seat), room);

@@ -12,6 +12,7 @@ use crate::pass::Pass;
 use crate::plays::{DeskTable, Give, Publish, Said, Take, TurnSeat};
 use std::marker::{Brand, Model};
 use std::sync::Wait;
+use std::sync::atomic::{AtomicU64, Ordering};
 
 /// Objects that threads take in turn: 1 to 1,026, numbered from 0. Threads share the desk by
 /// reference.
@@ -22,6 +23,8 @@ pub struct Desk<O: Logged> {
     pub(crate) room: Vec<O>,
     // Room for the fronts that `close` gives: a row for each pass.
     pub(crate) rows: Vec<Vec<u32>>,
+    // How many threads sleep in `hold`, or are about to.
+    pub(crate) sleepers: AtomicU64,
 }
 
 impl<O: Logged> Model for Desk<O> {
@@ -100,10 +103,20 @@ impl<O: Logged> Desk<O> {
         for _ in rt.forever() {
             match self.try_hold(pass, object) {
                 Ok(held) => return held,
-                Err(busy) => self.table.shared.park(rt, object as usize, busy.seat),
+                Err(busy) => self.sleep(rt, object, busy.seat),
             }
         }
         unreachable!()
+    }
+
+    // Sleeps while the object's turn word has this number. A thread is counted before it looks at the
+    // word for the last time, and `release` frees the word before it looks at the count.
+    fn sleep<R: Wait>(&self, rt: &R, object: u32, seat: u32)
+        requires { object < object_count self.now }
+    {
+        self.sleepers.fetch_add(1, Ordering::SeqCst);
+        self.table.shared.park(rt, object as usize, seat);
+        self.sleepers.fetch_sub(1, Ordering::SeqCst);
     }
 
     // Writes the new tally. From this step on the object's history is published.
@@ -127,8 +140,8 @@ impl<O: Logged> Desk<O> {
     }
 
     /// Publishes what was changed in one atomic step, gives the object back in another, and wakes
-    /// those that wait for it, by one call of the system even where none do. Turning to the
-    /// object's slot costs as much as this pass has objects.
+    /// those that wait for it, by a call of the system where any thread sleeps at this desk. Turning
+    /// to the object's slot costs as much as this pass has objects.
     ///
     /// The object is one that this pass has. The history that it was taken with begins its history
     /// now, its fixed number is the same, and nobody is inside a section.
@@ -154,6 +167,8 @@ impl<O: Logged> Desk<O> {
         shared.swap::<Give>(&mut pass.seat, slot, 0);
         pass.kept.remove(place);
         turn_by(&mut pass.seat, pass.kept.len() - place);
-        shared.wake_all(slot);
+        if self.sleepers.load(Ordering::SeqCst) > 0 {
+            shared.wake_all(slot);
+        }
     }
 }

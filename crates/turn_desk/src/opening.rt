@@ -14,6 +14,7 @@ use atomic_table::Table;
 use love_base::Memory;
 use std::alloc::Global;
 use std::marker::Brand;
+use std::sync::atomic::AtomicU64;
 
 // The words of a desk of free objects with empty histories: a turn word for each, then a tally
 // word.
@@ -203,6 +204,15 @@ impl<O: Logged> Desk<O> {
         bring_seats::<O, Brand>(&table, &mut seat, seats);
         put_all(&table, &mut seat, objects);
         let passes = deal(alloc, &table, seat, seats)?;
-        Ok((Desk { table, room, rows }, passes))
+        let sleepers = AtomicU64::new(0);
+        Ok((
+            Desk {
+                table,
+                room,
+                rows,
+                sleepers,
+            },
+            passes,
+        ))
     }
 }
