@@ -1,5 +1,5 @@
 -- What a pass knows, and how each step changes it.
-use Rattle.std.specs.Prelude.{◌≡◌, ℕ, ◌+◌, ◌-◌, ◌==◌, max, List, [], ◌∷◌, ◌++◌, length, replicate, slice_index_or, slice_set, count_by}
+use Rattle.std.specs.Prelude.{ℕ, ◌+◌, ◌-◌, ◌==◌, max, List, [], ◌∷◌, ◌++◌, length, replicate, slice_index_or, slice_set, count_by}
 use Rattle.std.proofs.Common.{zero, suc}
 use Rattle.turn_desk.specs.declared.view.Own.{Own}
 use Rattle.turn_desk.specs.declared.view.Phase.TheVariants.{Free, Taken, Published}
