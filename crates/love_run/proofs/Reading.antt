@@ -1,5 +1,5 @@
 -- How far a source was read, line by line.
-use Rattle.std.proofs.Common.{◌≡◌, ℕ, ◌+◌, ◌++◌, List, [], ◌∷◌, length, Option, Some, None, Bor, refl, sym, ◌∙◌, ap, subst}
+use Rattle.std.proofs.Common.{◌≡◌, ℕ, ◌+◌, ◌++◌, List, [], ◌∷◌, length, Option, Some, None, Bor, sym, ◌∙◌, ap, subst}
 use Rattle.std.proofs.lemmas.List.{append_assoc, append-nil}
 use Rattle.love_run.specs.Program.{lines, lines_behind, Spells, SpellsEach}
 use Rattle.love_run.specs.declared.statement.Statement.{Statement}
@@ -14,10 +14,6 @@ pub record IsRead (source : List ℕ) (read : List Statement) (left : Option (Bo
   pub done : List (List ℕ)
   pub parts : done ++ lines_behind left ≡ lines source
   pub spelled : SpellsEach read done
-
--- at the start all is left
-pub nothing_read : (source : Bor (List ℕ)) → IsRead source.now [] (Some source)
-nothing_read source = record { done = []; parts = refl; spelled = tt }
 
 -- one statement and one line more
 spelled_more : (read : List Statement) (done : List (List ℕ)) (statement : Statement) (line : List ℕ) → SpellsEach read done → Spells statement line → SpellsEach (read ++ statement ∷ []) (done ++ line ∷ [])

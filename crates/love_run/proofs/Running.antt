@@ -116,12 +116,6 @@ line_run program line statement out out' h h' within is printing adds so_far =
       few = rw (adds, length-append h (added (line + 1) h statement)) (omega (arith, added_few (line + 1) h statement, so_far.few));
     }
 
--- at the end all lines are whole
-pub all_run : (program : List Statement) (line : ℕ) (out : List ℕ) (h : List Entry) → drop line program ≡ [] → HasRun program line out h → (out ≡ output program) × (h ≡ history program)
-all_run program line out h none so_far =
-    let whole : take line program ≡ program = sym (append-nil (take line program)) ∙ ap (λ rest. take line program ++ rest) (sym none) ∙ take-append-drop line program in
-    (so_far.prints ∙ ap output whole, so_far.does ∙ ap history whole)
-
 -- a line that is cut short stops the program
 pub stops_in : (program : List Statement) (line : ℕ) (statement : Statement) (out out' : List ℕ) (h h' : List Entry) → line < length program → statement ≡ get_or program line statement → IsCut (line + 1) statement out out' h h' → HasRun program line out h → StopsIn program out' h'
 stops_in program line statement out out' h h' within is cut so_far =

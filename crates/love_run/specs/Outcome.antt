@@ -47,7 +47,7 @@ pub record StopsIn (program : List Statement) (out : List ℕ) (done : List Entr
   pub parts : program ≡ before ++ statement ∷ after
   pub cut : IsCut (length before + 1) statement (output before) out (history before) done
 
--- so what it printed and did are beginnings of what it prints and does
+-- the same, and what follows from it: what it printed and did are beginnings of what it prints and does
 abbrev pub IsCutShort : List Statement → List ℕ → List Entry → Type 0
 IsCutShort program out done =
     StopsIn program out done × IsPrefix out (output program) × IsPrefix done (history program)

@@ -1,5 +1,4 @@
 ghost use Rattle.std.specs.Prelude.{◌≡◌, ◌<◌, ◌++◌, ◌∷◌, [], length, IfOk, OnOk, OnErr};
-ghost use Rattle.love_base.specs.Prefix.{IsPrefix};
 ghost use Rattle.channel_core.specs.Lawful.{entry_limit, NumbersBelow};
 ghost use Rattle.channel_core.specs.History.{front, put_by};
 ghost use Rattle.love_run.specs.Outcome.{IsCutShort};

@@ -1,4 +1,4 @@
-ghost use Rattle.std.specs.Prelude.{◌≡◌, ℕ, Option, length};
+ghost use Rattle.std.specs.Prelude.{Option};
 
 use super::{folder, words};
 use crate::love;
