@@ -6,7 +6,7 @@ ghost use Rattle.love_base.specs.Fault.{HasRisen};
 ghost use Rattle.love_base.specs.Folder.{File, paths, content};
 
 use crate::{Memory, Text};
-use std::alloc::{AllocError, AllocFailed, Global};
+use std::alloc::Global;
 use std::io;
 use std::io::ErrorKind;
 
@@ -25,26 +25,6 @@ impl From<Memory> for FolderErr {
     ghost from_gives = { λ _ fault. fault ≡ Memory };
 
     fn from(_want: Memory) -> FolderErr {
-        FolderErr::Memory
-    }
-}
-
-impl From<AllocError> for FolderErr {
-    ghost use Rattle.love_base.specs.declared.folder.FolderErr.TheVariants.{Memory};
-
-    ghost from_gives = { λ _ fault. fault ≡ Memory };
-
-    fn from(_refused: AllocError) -> FolderErr {
-        FolderErr::Memory
-    }
-}
-
-impl<T: Drop> From<AllocFailed<T>> for FolderErr {
-    ghost use Rattle.love_base.specs.declared.folder.FolderErr.TheVariants.{Memory};
-
-    ghost from_gives = { λ _ fault. fault ≡ Memory };
-
-    fn from(_refused: AllocFailed<T>) -> FolderErr {
         FolderErr::Memory
     }
 }
@@ -75,7 +55,8 @@ pub trait Folder {
     /// system don't.
     ghost files: { Self → List ℕ → Option (List File) };
 
-    /// How many calls were made, as far as the folder counts them.
+    /// How many calls were made, where the folder counts them. One that counts none stays at its
+    /// first number, so what a clause says of calls is said of folders that count.
     ghost calls: { Self → ℕ };
 
     /// The paths of all files below the folder `at`, with `/` between their parts, no two alike.

@@ -1,28 +1,43 @@
-ghost use Rattle.std.specs.Prelude.{◌≡◌, ◌++◌, IfOk, IsErrOf, nat_eq};
+ghost use Rattle.std.specs.Prelude.{◌≡◌, ◌↔◌, IfErr, IfOk, IsErr, IsTrue, nat_eq, string_bytes};
+ghost use Rattle.std.specs.IoError.{error_kind};
 ghost use Rattle.std.specs.List.{IsDistinct};
 ghost use Rattle.std.specs.List.Sorted.{IsStrictlySortedBy};
 ghost use Rattle.std.specs.Ordering.{nat_cmp};
 ghost use Rattle.std.specs.Cmp.Lexicographic.{pointwise, slice_cmp};
+ghost use Rattle.love_base.specs.Folder.{joined};
+ghost use Rattle.love_base.specs.Link.{leads_nowhere};
 
-use crate::{FolderErr, Memory, Text};
-use std::alloc::Global;
-use std::fs;
-use std::fs::DirEntry;
+use crate::Text;
+use std::alloc::{AllocError, Global};
+use std::fs::Metadata;
 use std::io::ErrorKind;
 use std::rt::Files;
+use std::{fs, io};
 
 // How deep folders may be nested below the one that is listed.
 const DEEPEST: u8 = 16;
 
 // The text where it is UTF-8, as every path of the file system has to be.
-pub(crate) fn utf8(text: &Text) -> Result<&str, FolderErr>
+pub(crate) fn utf8(text: &Text) -> io::Result<&str>
     ensures same { IfOk result (λ found. found.now ≡ text.now) }
-    ensures never_memory { ¬ IsErrOf result FolderErr.Memory }
 {
     match str::from_utf8(text.bytes()) {
         Ok(text) => Ok(text),
-        Err(_) => Err(FolderErr::Failed),
+        Err(_) => Err(io::Error::from(ErrorKind::InvalidFilename)),
     }
+}
+
+// The path of what has this name in a folder. What is right in the folder at the start, whose own
+// path is empty, has its name alone.
+pub(crate) fn join(alloc: Global, folder: &str, name: &str) -> Result<String, AllocError>
+    ensures { IfOk result (λ path. string_bytes path ≡ joined folder.now name.now) }
+{
+    let mut path = String::from_str(alloc, folder)?;
+    if !path.is_empty() {
+        path.push('/')?;
+    }
+    path.push_str(name)?;
+    Ok(path)
 }
 
 // The paths of the regular files below a folder, in byte order, no two alike.
@@ -30,7 +45,7 @@ pub(crate) fn list_files<R: Files + AllocGlobal + Clone + Drop>(
     rt: &R,
     alloc: Global,
     at: &Text,
-) -> Result<Vec<Text>, FolderErr>
+) -> io::Result<Vec<Text>>
     ensures sorted { IfOk result (λ names. IsStrictlySortedBy (slice_cmp nat_cmp) names.items) }
     ensures differ { IfOk result (λ names. IsDistinct (pointwise nat_eq) names.items) }
 {
@@ -44,7 +59,7 @@ pub(crate) fn list_files<R: Files + AllocGlobal + Clone + Drop>(
 // A folder that is still to be opened.
 #[derive(Drop)]
 struct Unopened {
-    // Its path below the root: empty for the root itself, and else ending in `/`.
+    // Its path below the root, which is empty for the root itself.
     path: String,
     // How deep it is nested below the root.
     depth: u8,
@@ -57,19 +72,21 @@ fn walk<R: Files + AllocGlobal + Clone + Drop>(
     rt: &R,
     alloc: Global,
     root: &str,
-) -> Result<Vec<Text>, FolderErr> {
+) -> io::Result<Vec<Text>> {
     let mut names = Vec::new(alloc);
     let mut unopened = Vec::new(alloc);
     let path = String::new(alloc);
     unopened.push(Unopened { path, depth: 0 })?;
-    // The bound is for the proof that this ends: no machine has more folders.
-    for _ in 0..u64::MAX {
-        let Some(folder) = unopened.pop() else {
-            return Ok(names);
-        };
+    // No machine has so many folders: the number is for the proof that the walk ends.
+    let mut left = u64::MAX;
+    while let Some(folder) = unopened.pop() {
+        if left == 0 {
+            return Err(io::Error::from(ErrorKind::Unsupported));
+        }
+        left -= 1;
         open(rt, alloc, root, &folder, &mut names, &mut unopened)?;
     }
-    Err(FolderErr::Failed)
+    Ok(names)
 }
 
 // Adds the files right in this folder to `names`, and the folders right in it to `unopened`.
@@ -80,16 +97,17 @@ fn open<R: Files + AllocGlobal + Clone + Drop>(
     folder: &Unopened,
     names: &mut Vec<Text>,
     unopened: &mut Vec<Unopened>,
-) -> Result<(), FolderErr> {
+) -> io::Result<()> {
     let at = folder.path.as_str();
-    for entry in fs::read_dir(rt, format!(in alloc; "{root}/{at}")?)? {
+    for entry in fs::read_dir(rt, join(alloc, root, at)?)? {
         let entry = entry?;
-        let name = entry.file_name();
-        match kind_of(rt, &entry)? {
-            Kind::File => names.push(path_of(alloc, at, name)?)?,
-            Kind::Folder if folder.depth >= DEEPEST => return Err(FolderErr::Failed),
+        let path = join(alloc, at, entry.file_name())?;
+        match kind_of(fs::metadata(rt, entry.path()))? {
+            Kind::File => names.push(Text::from_vec(path.into_bytes()))?,
+            Kind::Folder if folder.depth >= DEEPEST => {
+                return Err(io::Error::from(ErrorKind::Unsupported));
+            }
             Kind::Folder => {
-                let path = format!(in alloc; "{at}{name}/")?;
                 let depth = folder.depth + 1;
                 unopened.push(Unopened { path, depth })?;
             }
@@ -99,14 +117,6 @@ fn open<R: Files + AllocGlobal + Clone + Drop>(
     Ok(())
 }
 
-fn path_of(alloc: Global, folder: &str, name: &str) -> Result<Text, Memory>
-    ensures { IfOk result (λ path. path ≡ folder.now ++ name.now) }
-{
-    let mut path = Vec::from_slice(alloc, folder.as_bytes())?;
-    path.extend_from_slice(name.as_bytes())?;
-    Ok(Text::from_vec(path))
-}
-
 enum Kind {
     File,
     Folder,
@@ -114,21 +124,23 @@ enum Kind {
 }
 
 // What an entry, or what the link that it is leads to, is. A link that leads nowhere, through a
-// file or in a circle is neither a file nor a folder.
-fn kind_of<R: Files + AllocGlobal + Clone + Drop>(
-    rt: &R,
-    entry: &DirEntry<R, Global>,
-) -> Result<Kind, FolderErr> {
-    match fs::metadata(rt, entry.path()) {
+// file or in a circle is neither a file nor a folder. What can't be looked at for another cause is
+// not passed over.
+fn kind_of(found: io::Result<Metadata>) -> io::Result<Kind>
+    ensures { IfErr found (λ fault. IsErr result ↔ ¬ IsTrue (leads_nowhere (error_kind fault))) }
+{
+    match found {
         Ok(metadata) if metadata.is_dir() => Ok(Kind::Folder),
         Ok(metadata) if metadata.is_file() => Ok(Kind::File),
         Ok(_) => Ok(Kind::Neither),
         Err(fault) if leads_nowhere(fault.kind()) => Ok(Kind::Neither),
-        Err(fault) => Err(FolderErr::from(fault)),
+        Err(fault) => Err(fault),
     }
 }
 
-fn leads_nowhere(kind: ErrorKind) -> bool {
+fn leads_nowhere(kind: ErrorKind) -> bool
+    ensures { result ≡ leads_nowhere kind }
+{
     matches!(
         kind,
         ErrorKind::NotFound | ErrorKind::NotADirectory | ErrorKind::FilesystemLoop

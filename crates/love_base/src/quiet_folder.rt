@@ -3,26 +3,25 @@ ghost use Rattle.std.specs.List.{IsDistinct};
 ghost use Rattle.std.specs.Cmp.Lexicographic.{pointwise};
 ghost use Rattle.love_base.specs.Folder.{content, paths, stored};
 
-use crate::file_table::FileTable;
-use crate::{Folder, FolderErr, Text};
+use crate::{Folder, FolderErr, MemFolder, Text};
 use std::alloc::Global;
 use std::marker::Model;
 
-/// A folder in memory that tells its files, and never fails. Like [`MemFolder`](crate::MemFolder)
-/// it answers alike whatever folder it is asked for, looks at the files in order, and copies what
-/// it gives.
+/// A [`MemFolder`] that never fails.
 #[derive(Debug, Drop)]
 pub struct QuietFolder {
-    files: FileTable,
+    folder: MemFolder,
 }
 
 impl Model for QuietFolder {
-    ghost use Rattle.std.specs.Prelude.{List};
+    ghost use Rattle.std.specs.Prelude.{◌≡◌, [], List};
     ghost use Rattle.love_base.specs.Folder.{File};
 
     ghost Value = { List File };
 
-    ghost view = { λ folder. folder.files };
+    ghost view = { λ quiet. quiet.folder.files };
+
+    ghost invariant = { λ quiet. quiet.folder.script.fails ≡ [] };
 }
 
 impl QuietFolder {
@@ -31,8 +30,9 @@ impl QuietFolder {
         requires { IsDistinct (pointwise nat_eq) (paths (stored files.items)) }
         ensures { result ≡ stored files.items }
     {
+        let fails = Vec::new(*files.allocator());
         QuietFolder {
-            files: FileTable::new(files),
+            folder: MemFolder::new(files, fails),
         }
     }
 }
@@ -44,21 +44,21 @@ impl Folder for QuietFolder {
 
     ghost calls = { λ _. 0 };
 
-    fn list(&mut self, alloc: Global, _at: &Text) -> Result<Vec<Text>, FolderErr>
+    fn list(&mut self, alloc: Global, at: &Text) -> Result<Vec<Text>, FolderErr>
         ensures told { IfOk result (λ names. names.items ≡ paths self.old) }
         ensures differ { IfOk result (λ names. IsDistinct (pointwise nat_eq) names.items) }
         ensures quiet { ¬ IsErrOf result FolderErr.Failed }
         ensures kept { self.new ≡ self.old }
     {
-        Ok(self.files.paths(alloc)?)
+        self.folder.list(alloc, at)
     }
 
-    fn read(&mut self, alloc: Global, _at: &Text, name: &Text) -> Result<Vec<u8>, FolderErr>
+    fn read(&mut self, alloc: Global, at: &Text, name: &Text) -> Result<Vec<u8>, FolderErr>
         requires { IsSome (content self.old name.now) }
         ensures told { IfOk result (λ bytes. content self.old name.now ≡ Option.Some bytes.items) }
         ensures quiet { ¬ IsErrOf result FolderErr.Failed }
         ensures kept { self.new ≡ self.old }
     {
-        Ok(self.files.content(alloc, name)?)
+        self.folder.read(alloc, at, name)
     }
 }
