@@ -89,16 +89,9 @@ impl<R: Files + AllocGlobal + Clone + Drop> Folder for RealFolder<R> {
     }
 }
 
-fn read_file<R: Files>(
-    rt: &R,
-    alloc: Global,
-    at: &Text,
-    name: &Text,
-) -> io::Result<Vec<u8>> {
+fn read_file<R: Files>(rt: &R, alloc: Global, at: &Text, name: &Text) -> io::Result<Vec<u8>> {
     let path = join(alloc, utf8(at)?, utf8(name)?)?;
     let mut bytes = Vec::new(alloc);
-    fs::open(rt, path)?
-        .take(MOST_READ)
-        .read_to_end(&mut bytes)?;
+    fs::open(rt, path)?.take(MOST_READ).read_to_end(&mut bytes)?;
     Ok(bytes)
 }

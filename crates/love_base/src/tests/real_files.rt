@@ -110,8 +110,10 @@ fn lists_an_empty_folder_and_no_missing_one(rt: HostRuntime) -> Result<(), Fail>
             _ => panic!(rt; "{path:?}: {listed:?}"),
         }
     }
-    let unnamed = listing(&rt, b"/tmp/\xff")?;
-    assert!(rt; matches!(unnamed, Err(FolderErr::Failed)));
+    for path in [b"".as_slice(), b"/tmp/\xff"] {
+        let listed = listing(&rt, path)?;
+        assert!(rt; matches!(listed, Err(FolderErr::Failed)), "{path:?}");
+    }
     fs::remove_dir_all(&rt, root.as_str())?;
     Ok(())
 }
@@ -143,6 +145,30 @@ fn lists_no_link_to_itself(rt: HostRuntime) -> Result<(), Fail> {
     make_link(&rt, &root, "again", ".")?;
     let listed = listing(&rt, root.as_bytes())?;
     assert!(rt; matches!(listed, Err(FolderErr::Failed)), "{listed:?}");
+    fs::remove_dir_all(&rt, root.as_str())?;
+    Ok(())
+}
+
+// No file system has names of over 255 bytes, so that the system can't look at what such a link
+// leads to, and doesn't say that it leads nowhere.
+#[test]
+fn passes_over_no_link_that_cannot_be_looked_at(rt: HostRuntime) -> Result<(), Fail> {
+    let root = fresh_folder(&rt, "unseen")?;
+    let name = [b'x'; 300];
+    make_link(&rt, &root, "link", str::from_utf8(&name)?)?;
+    let listed = listing(&rt, root.as_bytes())?;
+    assert!(rt; matches!(listed, Err(FolderErr::Failed)), "{listed:?}");
+    fs::remove_dir_all(&rt, root.as_str())?;
+    Ok(())
+}
+
+#[test]
+fn reads_no_more_than_shows_that_a_file_is_too_long(rt: HostRuntime) -> Result<(), Fail> {
+    let root = fresh_folder(&rt, "long")?;
+    let path = format!(in rt.alloc(); "{root}/main.lua")?;
+    fs::create(&rt, path.as_str())?.set_len(67_108_866)?;
+    let read = reading(&rt, root.as_bytes(), b"main.lua")?;
+    assert!(rt; read.is_ok_and(|bytes| bytes.len() == 67_108_865));
     fs::remove_dir_all(&rt, root.as_str())?;
     Ok(())
 }
