@@ -1,5 +1,5 @@
 -- Exponents: their texts, and how far they move a point.
-use Rattle.std.proofs.Common.{◌≡◌, ◌≢◌, ℕ, zero, suc, ◌+◌, ◌-◌, ◌^◌, ◌<◌, ◌⊎◌, inl, inr, unwrap_or, MatchOption, Bor, pos, Option, Some, None, List, ◌∷◌, ◌++◌, length, min, arith, refl, sym, ◌∙◌, ap}
+use Rattle.std.proofs.Common.{◌≡◌, ◌≢◌, ℕ, zero, suc, ◌+◌, ◌-◌, ◌^◌, ◌<◌, ◌⊎◌, unwrap_or, MatchOption, Bor, pos, Option, Some, None, List, ◌∷◌, ◌++◌, length, min, arith, refl, sym, ◌∙◌, ap}
 use Rattle.std.specs.Str.Parse.{AllDigits, digits_value}
 use Rattle.lua_value.specs.Sign.{Sign, sign_text, signed}
 use Rattle.lua_value.specs.Sign.Sign.{unsigned, plus, minus}
@@ -20,14 +20,11 @@ moved_point-signed minus whole (suc d) h = omega arith
 
 -- a number behind an optional `+`
 pub plus_or_none : (text behind : Bor (List ℕ)) (o : Option (Bor (List ℕ))) → behind ≡ unwrap_or o text →
-    MatchOption o ((c : ℕ) (rest : List ℕ) → text.now ≡ c ∷ rest → (c ≢ 43) × (c ≢ 43))
-    (λ rest. (c : ℕ) × (text.now ≡ c ∷ rest.now) × ((c ≡ 43) ⊎ (c ≡ 43))) →
+    MatchOption o ((c : ℕ) (rest : List ℕ) → text.now ≡ c ∷ rest → c ≢ 43) (λ rest. text.now ≡ 43 ∷ rest.now) →
     (s : Sign) × (text.now ≡ sign_text s ++ behind.now)
     × ((whole n : ℕ) → moved_by s whole n ≡ min (whole + n) (2 ^ 64 - 1))
 plus_or_none text behind None e h = (unsigned, ap (λ (b : Bor (List ℕ)). b.now) (sym e), λ _ _. refl)
-plus_or_none text behind (Some rest) e (c, parts, is_plus) =
-    let is : c ≡ 43 = elim is_plus [ inl p ↦ p | inr p ↦ p ] in
-    (plus, parts ∙ rw (is, e) refl, λ _ _. refl)
+plus_or_none text behind (Some rest) e parts = (plus, parts ∙ rw e refl, λ _ _. refl)
 
 -- an exponent from its parts, and where it moves the point
 pub exponent_of : (s : Sign) (text behind digits : List ℕ) (letter whole size point : ℕ) → whole < 2 ^ 64 →

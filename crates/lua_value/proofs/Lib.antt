@@ -9,3 +9,4 @@ pub mod Scaling
 pub mod Reading
 pub mod Placing
 pub mod ExponentLemmas
+pub mod Fronts

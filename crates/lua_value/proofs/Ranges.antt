@@ -1,5 +1,5 @@
 -- What is a `Num`, and what is out of range; the laws of the operations.
-use Rattle.std.proofs.Common.{◌≡◌, ◌≢◌, zero, suc, ℤ, pos, negsuc, neg_ℤ, ◌+ℤ◌, ◌-ℤ◌, ◌*ℤ◌, unsigned_abs, Bool, true, false, cond, nat_le, Option, Some, None, Ok, Err, SomeIff, ok_or, arith, refl, sym, ap, ◌∙◌}
+use Rattle.std.proofs.Common.{◌≡◌, ◌≢◌, zero, suc, ℤ, pos, negsuc, neg_ℤ, ◌+ℤ◌, ◌-ℤ◌, ◌*ℤ◌, unsigned_abs, Bool, true, false, cond, nat_le, Ok, Err, arith, refl, sym, ap, ◌∙◌}
 use Rattle.std.proofs.lemmas.Bool.{false≢true}
 use Rattle.std.proofs.lemmas.Bool.Decides.{nat_tests}
 use Rattle.std.proofs.lemmas.Int.{ints}
@@ -13,11 +13,6 @@ in_range-num z h = grind (arith, nat_tests)
 
 pub in_range-over : (z : ℤ) → ¬ IsNum z → in_range z ≡ Err OutOfRange
 in_range-over z h = grind (arith, nat_tests)
-
--- what `Num::new` gives, as an operation's answer
-pub in_range-new : (r : Option ℤ) (z : ℤ) → SomeIff r (IsNum z) z → ok_or r OutOfRange ≡ in_range z
-in_range-new None z h = sym (in_range-over z h)
-in_range-new (Some y) z h = rw h.1 (sym (in_range-num z h.0))
 
 is_zero-nonzero : (b : ℤ) → b ≢ pos 0 → is_zero b ≡ false
 is_zero-nonzero (pos zero) h = absurd (h refl)

@@ -72,7 +72,7 @@ impl Num {
         if rest != 0 {
             return Err(NumFault::NotWhole);
         }
-        Num::new(quotient).ok_or(NumFault::OutOfRange)
+        Ok(Num::new(quotient).unwrap())
     }
 
     /// The remainder `a - floor(a / b) * b`, with the divisor's sign.
@@ -88,7 +88,7 @@ impl Num {
             return Err(NumFault::NotWhole);
         }
         let (_, rest) = floor_division(dividend, divisor);
-        Num::new(rest).ok_or(NumFault::OutOfRange)
+        Ok(Num::new(rest).unwrap())
     }
 
     /// The power; 1 where the exponent is 0, also of 0.

@@ -16,26 +16,26 @@ pub(crate) fn decimal(text: &[u8]) -> Result<Num, NumeralFault>
     ensures { IsNumeralAnswer text.now result }
 {
     let (whole, rest) = split_digits(text);
-    let (fraction, exponent) = behind_point(rest);
+    let (fraction, exponent) = split_fraction(rest);
     if whole.len() + fraction.len() == 0 {
         return Err(NumeralFault::Malformed);
     }
-    let Some(point) = moved(whole.len(), exponent) else {
+    let Some(point) = shift_point(whole.len(), exponent) else {
         return Err(NumeralFault::Malformed);
     };
-    placed(whole, fraction, point).ok_or(NumeralFault::NotWhole)
+    value_at_point(whole, fraction, point).ok_or(NumeralFault::NotWhole)
 }
 
 // The digits behind a point, none where the text doesn't begin with one, and what stands behind
 // them.
-fn behind_point(text: &[u8]) -> (&[u8], &[u8])
+fn split_fraction(text: &[u8]) -> (&[u8], &[u8])
     requires { BeginsWithNoDigit text.now }
     ensures { (fraction : Option (List ℕ)) × AllDigits 10 (fraction_digits fraction)
         × EndsMantissa fraction result.1.now
         × (result.0.now ≡ fraction_digits fraction)
         × (text.now ≡ fraction_text fraction ++ result.1.now) }
 {
-    match after_either(text, b'.', b'.') {
+    match text.strip_prefix(b".") {
         Some(behind) => split_digits(behind),
         None => text.split_at(0),
     }
@@ -43,7 +43,7 @@ fn behind_point(text: &[u8]) -> (&[u8], &[u8])
 
 // Where the point behind `whole` digits stands once the exponent has moved it, or `None` where the
 // text is no exponent.
-fn moved(whole: usize, exponent: &[u8]) -> Option<usize>
+fn shift_point(whole: usize, exponent: &[u8]) -> Option<usize>
     ensures { MatchOption result
         ((e : Option Exponent) → IsOptionalExponent e → exponent_text e ≢ exponent.now)
         (λ point. (e : Option Exponent) × IsOptionalExponent e
@@ -56,17 +56,17 @@ fn moved(whole: usize, exponent: &[u8]) -> Option<usize>
             None
         };
     };
-    match after_either(signed, b'-', b'-') {
-        Some(digits) => Some(whole.saturating_sub(size(digits)?)),
+    match signed.strip_prefix(b"-") {
+        Some(digits) => Some(whole.saturating_sub(exponent_size(digits)?)),
         None => {
-            let digits = after_either(signed, b'+', b'+').unwrap_or(signed);
-            Some(whole.saturating_add(size(digits)?))
+            let digits = signed.strip_prefix(b"+").unwrap_or(signed);
+            Some(whole.saturating_add(exponent_size(digits)?))
         }
     }
 }
 
 // The number that one decimal digit or more write, at most the greatest word.
-fn size(digits: &[u8]) -> Option<usize>
+fn exponent_size(digits: &[u8]) -> Option<usize>
     ensures { MatchOption result
         ((0 < length digits.now) → ¬ AllDigits 10 digits.now)
         (λ n. (0 < length digits.now) × AllDigits 10 digits.now
@@ -81,7 +81,7 @@ fn size(digits: &[u8]) -> Option<usize>
 
 // The number that the digits write where the first `point` of them stand before the point, or
 // `None` where it isn't whole or out of range.
-fn placed(whole: &[u8], fraction: &[u8], point: usize) -> Option<Num>
+fn value_at_point(whole: &[u8], fraction: &[u8], point: usize) -> Option<Num>
     requires whole { AllDigits 10 whole.now }
     requires fraction { AllDigits 10 fraction.now }
     requires short { length whole.now + length fraction.now < 2 ^ 63 }
@@ -91,14 +91,14 @@ fn placed(whole: &[u8], fraction: &[u8], point: usize) -> Option<Num>
         (λ z. IsScaled whole.now fraction.now e z × IsNum z) }
 {
     let behind = point.saturating_sub(whole.len());
-    let number = kept(0, whole, point)?;
-    let number = kept(number, fraction, behind)?;
-    with_zeros(number, behind.saturating_sub(fraction.len()))
+    let number = read_until(0, whole, point)?;
+    let number = read_until(number, fraction, behind)?;
+    append_zeros(number, behind.saturating_sub(fraction.len()))
 }
 
 // The number that the first `count` digits write behind those of `value`, or `None` where the
 // others aren't all 0.
-fn kept(value: u64, digits: &[u8], count: usize) -> Option<u64>
+fn read_until(value: u64, digits: &[u8], count: usize) -> Option<u64>
     requires { AllDigits 10 digits.now }
     ensures { MatchOption result
         (digits_value 10 (drop count digits.now) ≢ 0)
@@ -113,7 +113,7 @@ fn kept(value: u64, digits: &[u8], count: usize) -> Option<u64>
 }
 
 // The number with as many zeros behind it, or `None` where it is out of range.
-pub(crate) fn with_zeros(number: u64, zeros: usize) -> Option<Num>
+pub(crate) fn append_zeros(number: u64, zeros: usize) -> Option<Num>
     ensures { MatchOption result
         (¬ IsNum (pos (number * 10 ^ zeros)))
         (λ z. (z ≡ pos (number * 10 ^ zeros)) × IsNum z) }

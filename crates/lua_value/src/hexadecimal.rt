@@ -1,11 +1,9 @@
 //! Hexadecimal numerals: `0x` or `0X`, and digits.
 
-ghost use Rattle.std.specs.Prelude.{◌≡◌, ◌≢◌, ℕ, pos, ◌<◌, ◌⊎◌, List, ◌∷◌, length, MatchOption};
-ghost use Rattle.std.specs.Str.Parse.{AllDigits, digits_value};
-ghost use Rattle.lua_value.specs.Num.{IsNum};
+ghost use Rattle.std.specs.Prelude.{◌≡◌, ◌≢◌, ℕ, ◌⊎◌, List, ◌∷◌, MatchOption};
 ghost use Rattle.lua_value.specs.Numeral.{IsHexadecimalAnswer};
 
-use crate::decimal::with_zeros;
+use crate::decimal::append_zeros;
 use crate::digits::{after_either, digits_onto};
 use crate::{Num, NumeralFault};
 
@@ -17,7 +15,7 @@ pub(crate) fn hexadecimal_digits(text: &[u8]) -> Option<&[u8]>
         (λ digits. (letter : ℕ) × ((letter ≡ 120) ⊎ (letter ≡ 88))
         × (text.now ≡ 48 ∷ (letter ∷ digits.now))) }
 {
-    let letter = after_either(text, b'0', b'0')?;
+    let letter = text.strip_prefix(b"0")?;
     after_either(letter, b'x', b'X')
 }
 
@@ -29,5 +27,5 @@ pub(crate) fn hexadecimal(digits: &[u8]) -> Result<Num, NumeralFault>
         return Err(NumeralFault::Malformed);
     }
     let number = digits_onto(16, 0, digits).ok_or(NumeralFault::Malformed)?;
-    with_zeros(number, 0).ok_or(NumeralFault::NotWhole)
+    append_zeros(number, 0).ok_or(NumeralFault::NotWhole)
 }

@@ -2,7 +2,7 @@
 //! blanks.
 
 ghost use Rattle.std.specs.Prelude.{◌≡◌, ◌↔◌, ◌++◌, ℕ, ℤ, neg_ℤ, List, MatchOption, if◌then◌else◌};
-ghost use Rattle.std.specs.List.{AllPass, prefix_len};
+ghost use Rattle.std.specs.List.{AllPass};
 ghost use Rattle.lua_value.specs.Num.{IsNum};
 ghost use Rattle.lua_value.specs.Sign.{Sign, sign_text, signed};
 ghost use Rattle.lua_value.specs.Sign.Sign.{unsigned};
@@ -10,7 +10,6 @@ ghost use Rattle.lua_value.specs.NumberText.{is_blank, is_no_blank, DenotesSigne
 ghost use Rattle.lua_value.specs.Place.{FailsAtFirst, HasNoSign, IsWordOf};
 
 use crate::Num;
-use crate::digits::after_either;
 
 impl Num {
     /// The number that a text stands for: blanks, an optional sign, a numeral and blanks; `None`
@@ -68,9 +67,9 @@ fn split_sign(word: &[u8]) -> (bool, &[u8])
         × (sign ≡ unsigned → HasNoSign result.1.now)
         × ((z : ℤ) → signed sign z ≡ (if result.0 then neg_ℤ z else z)) }
 {
-    match after_either(word, b'-', b'-') {
+    match word.strip_prefix(b"-") {
         Some(numeral) => (true, numeral),
-        None => (false, after_either(word, b'+', b'+').unwrap_or(word)),
+        None => (false, word.strip_prefix(b"+").unwrap_or(word)),
     }
 }
 

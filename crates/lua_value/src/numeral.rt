@@ -1,6 +1,6 @@
 //! Numerals (Lua 5.1 manual §2.1): numbers read from bytes.
 
-ghost use Rattle.std.specs.Prelude.{◌≡◌, ◌↔◌, ℕ, ℤ, pos, ◌<◌, ◌≤◌, List, length};
+ghost use Rattle.std.specs.Prelude.{◌≡◌, ◌↔◌, ℤ, pos, ◌<◌, ◌≤◌, length};
 ghost use Rattle.std.specs.Str.Parse.{AllDigits, digits_value};
 ghost use Rattle.lua_value.specs.Num.{IsNum};
 ghost use Rattle.lua_value.specs.Numeral.{IsNumeral, Denotes, IsNumeralAnswer};
@@ -33,7 +33,6 @@ impl Num {
     /// where it is one whose exact value isn't whole or lies outside the range; the reference
     /// program of Lua 5.1 would round such a value.
     pub fn numeral(text: &[u8]) -> Result<Num, NumeralFault>
-        ensures cases { IsNumeralAnswer text.now result }
         ensures ok { (z : ℤ) → (result ≡ Ok z) ↔ (Denotes text.now z × IsNum z) }
         ensures malformed { (result ≡ Err NumeralFault.Malformed) ↔ ¬ IsNumeral text.now }
         ensures not_whole { (result ≡ Err NumeralFault.NotWhole)

@@ -1,7 +1,7 @@
-use Rattle.std.proofs.Common.{◌≡◌, ◌≢◌, ℤ, pos, ◌∙◌, w64, to_z, of_z, SFits, rules, ap}
+use Rattle.std.proofs.Common.{◌≡◌, ◌≢◌, ℤ, pos, ◌∙◌, w64, to_z, of_z, SFits, Ok, rules, ap, sym}
 use Rattle.std.proofs.lemmas.Int.{to_z-of_z}
 use Rattle.lua_value.specs.Arithmetic.{floor_remainder}
-use Rattle.lua_value.proofs.Ranges.{in_range-new, rem-nonzero}
+use Rattle.lua_value.proofs.Ranges.{in_range-num, rem-nonzero}
 use Rattle.lua_value.proofs.num.Num.rem.Goals as goal
 
 -- the value of a word that was read from a `Num`
@@ -15,4 +15,5 @@ returns c =
     let nonzero : c.args.other ≢ pos 0 = λ e. c.if-divisor-eq0.false (ap (of_z w64) (c.get-divisor.ensures.value ∙ e)) in
     let rest : to_z w64 (of_z w64 c.floor_division-rest.result.1) ≡ floor_remainder c.args.self c.args.other =
     word_is _ _ (search rules) (rw (dividend, divisor) at c.floor_division-rest.ensures.rest) in
-    c.ok_or.ensures.value ∙ in_range-new c.new.result (to_z w64 (of_z w64 c.floor_division-rest.result.1)) c.new.ensures ∙ rem-nonzero c.args.self c.args.other _ nonzero rest
+    let given = rw c.unwrap.ensures at c.new.ensures in
+    ap (λ (r : ℤ). Ok r) given.1 ∙ sym (in_range-num _ given.0) ∙ rem-nonzero c.args.self c.args.other _ nonzero rest

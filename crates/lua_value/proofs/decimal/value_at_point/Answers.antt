@@ -1,7 +1,7 @@
 use Rattle.std.proofs.Common.{arith}
 use Rattle.lua_value.proofs.DigitLemmas.{zeros_behind, zeros_first, zeros_second, read_before}
 use Rattle.lua_value.proofs.Placing.{IsScaled-zeros, placed_of}
-use Rattle.lua_value.proofs.decimal.placed.Goals as goal
+use Rattle.lua_value.proofs.decimal.value_at_point.Goals as goal
 
 pub returns-in_err-number : goal.returns-in_err-number
 returns-in_err-number c = λ e at. rw c.from_residual.ensures (λ z value _.
@@ -21,4 +21,4 @@ returns c = λ e at.
     placed_of whole fraction c.requires.whole c.requires.fraction (omega arith) e point at _
     (read_before point _ whole fraction _ _ c.in_ok-number.ensures.1 (rw c.saturating_sub-behind.ensures at c.in_ok-number-2.ensures.1))
     (zeros_behind point whole fraction c.in_ok-number.ensures.0 (rw c.saturating_sub-behind.ensures at c.in_ok-number-2.ensures.0))
-    _ (rw (c.saturating_sub.ensures, c.saturating_sub-behind.ensures) at c.with_zeros.ensures)
+    _ (rw (c.saturating_sub.ensures, c.saturating_sub-behind.ensures) at c.append_zeros.ensures)

@@ -2,7 +2,7 @@ use Rattle.std.proofs.Common.{◌≡◌, ◌≢◌, ℕ, ◌-◌, ◌^◌, Optio
 use Rattle.std.specs.Str.Parse.{AllDigits, digits_value, digits_value_after}
 use Rattle.std.proofs.lemmas.List.{take_min, drop_min}
 use Rattle.lua_value.proofs.DigitLemmas.{AllDigits-take, AllDigits-drop}
-use Rattle.lua_value.proofs.decimal.kept.Goals as goal
+use Rattle.lua_value.proofs.decimal.read_until.Goals as goal
 
 -- the answer for the digits that are kept, where those that are cut off write 0
 kept_of : (r : Option ℕ) (digits front back : List ℕ) (value count : ℕ) → AllDigits 10 digits →
