@@ -16,28 +16,42 @@ fn reversed<T: Clone + Drop>(alloc: Global, items: &List<T>) -> Result<List<T>, 
     Ok(backwards)
 }
 
+// The numbers, put in one after the other.
+fn grown(alloc: Global, numbers: &[u32]) -> Option<List<u32>> {
+    let mut list = List::new(alloc);
+    for number in numbers {
+        if list.push(*number).is_err() {
+            return None;
+        }
+    }
+    Some(list)
+}
+
+// Whether the list tells the numbers of itself, in each of its ways.
+fn tells(list: &List<u32>, numbers: &[u32]) -> bool {
+    let places = [0, 1, 2, 3, usize::MAX];
+    list.len() == numbers.len()
+        && list.is_empty() == numbers.is_empty()
+        && list.as_slice() == numbers
+        && places.iter().all(|at| list.get(*at) == numbers.get(*at))
+}
+
 #[test]
 fn a_list_grows_at_its_end(rt: HostRuntime) -> Result<(), Fail> {
-    let mut list = List::new(rt.alloc());
-    assert!(rt; list.len() == 0 && list.is_empty());
-    assert!(rt; list.get(0).is_none());
-    for number in [7u32, 8, 9] {
-        assert!(rt; list.push(number).is_ok());
+    for numbers in [[].as_slice(), &[7], &[7, 8, 9]] {
+        let list = grown(rt.alloc(), numbers).ok_or("memory")?;
+        assert!(rt; tells(&list, numbers), "{numbers:?}");
     }
-    assert!(rt; list.len() == 3 && !list.is_empty());
-    assert_eq!(rt; list.as_slice(), [7u32, 8, 9].as_slice());
-    for (place, number) in [(0, Some(7)), (2, Some(9)), (3, None), (usize::MAX, None)] {
-        assert_eq!(rt; list.get(place).copied(), number, "at {place}");
-    }
+    let list = grown(rt.alloc(), &[7, 8, 9]).ok_or("memory")?;
     let back = reversed(rt.alloc(), &list)?;
-    assert_eq!(rt; back.as_slice(), [9u32, 8, 7].as_slice());
+    assert!(rt; tells(&back, &[9, 8, 7]));
     Ok(())
 }
 
 #[test]
 fn a_list_takes_a_vector_over(rt: HostRuntime) -> Result<(), Fail> {
     let letters = List::from_vec(vec![in rt.alloc(); b'a', b'b']?);
-    assert_eq!(rt; letters.as_slice(), b"ab".as_slice());
+    assert!(rt; letters.as_slice() == b"ab".as_slice());
     Ok(())
 }
 
@@ -48,9 +62,10 @@ fn a_list_holds_what_cannot_be_copied(rt: HostRuntime) -> Result<(), Fail> {
         let pushed: Result<(), (Text, Memory)> = names.push(Text::of(rt.alloc(), bytes)?);
         assert!(rt; pushed.is_ok());
     }
-    match names.get(1) {
-        Some(name) => assert_eq!(rt; name.bytes(), b"two".as_slice()),
-        None => panic!(rt; "no second name"),
-    }
+    assert!(rt;
+        names
+            .get(1)
+            .is_some_and(|name| name.bytes() == b"two".as_slice())
+    );
     Ok(())
 }

@@ -18,117 +18,114 @@ fn game(alloc: Global) -> Result<Vec<(Text, Vec<u8>)>, Memory>
     Ok(files)
 }
 
-// What a folder answers to a listing, a reading of each of two files, and a listing.
-#[derive(Debug, Drop)]
-struct Answers {
-    first: Result<Vec<Text>, FolderErr>,
-    one: Result<Vec<u8>, FolderErr>,
-    other: Result<Vec<u8>, FolderErr>,
-    last: Result<Vec<Text>, FolderErr>,
+// What a call comes to.
+#[derive(Clone, Copy, Debug, PartialEq, Eq)]
+enum Answer {
+    Right,
+    Wrong,
+    Failed,
 }
 
-fn asked<F: Folder>(alloc: Global, folder: &mut F, at: &Text, one: &Text, other: &Text) -> Answers
-    requires one { ForSome (F.files folder.old at.now)
-        (λ files. IsSome (content files one.now)) }
+fn of_listing(listed: Result<Vec<Text>, FolderErr>, paths: &[&[u8]]) -> Answer {
+    match listed {
+        Ok(names)
+            if names
+                .iter()
+                .map(|name| name.bytes())
+                .eq(paths.iter().copied()) => { Answer::Right }
+        Err(FolderErr::Failed) => Answer::Failed,
+        _ => Answer::Wrong,
+    }
+}
+
+fn of_reading(read: Result<Vec<u8>, FolderErr>, bytes: &[u8]) -> Answer {
+    match read {
+        Ok(found) if found.as_slice() == bytes => Answer::Right,
+        Err(FolderErr::Failed) => Answer::Failed,
+        _ => Answer::Wrong,
+    }
+}
+
+// What a folder of the two files answers to a listing, a reading of each, and a listing.
+fn asked<F: Folder>(
+    alloc: Global,
+    folder: &mut F,
+    at: &Text,
+    main: &Text,
+    other: &Text,
+) -> [Answer; 4]
+    requires main { ForSome (F.files folder.old at.now)
+        (λ files. IsSome (content files main.now)) }
     requires other { ForSome (F.files folder.old at.now)
         (λ files. IsSome (content files other.now)) }
 {
-    let first = folder.list(alloc, at);
-    let one = folder.read(alloc, at, one);
-    let other = folder.read(alloc, at, other);
-    let last = folder.list(alloc, at);
-    Answers {
-        first,
-        one,
-        other,
-        last,
-    }
+    let paths = [b"main.lua".as_slice(), b"a/b.lua"];
+    let first = of_listing(folder.list(alloc, at), &paths);
+    let one = of_reading(folder.read(alloc, at, main), b"return");
+    let empty = of_reading(folder.read(alloc, at, other), b"");
+    let last = of_listing(folder.list(alloc, at), &paths);
+    [first, one, empty, last]
 }
 
-fn are_both_paths(listed: &Result<Vec<Text>, FolderErr>) -> bool {
-    match listed {
-        Ok(names) => match names.as_slice() {
-            [main, other] => {
-                main.bytes() == b"main.lua".as_slice() && other.bytes() == b"a/b.lua".as_slice()
-            }
-            _ => false,
-        },
-        Err(_) => false,
-    }
+// The same of a folder whose calls of these numbers fail.
+fn asked_failing(alloc: Global, numbers: &[u64]) -> Result<[Answer; 4], Memory> {
+    let at = Text::of(alloc, b"game")?;
+    let main = Text::of(alloc, b"main.lua")?;
+    let other = Text::of(alloc, b"a/b.lua")?;
+    let fails = Vec::from_slice(alloc, numbers)?;
+    let mut folder = MemFolder::new(game(alloc)?, fails);
+    Ok(asked(alloc, &mut folder, &at, &main, &other))
 }
 
-fn is_content(read: &Result<Vec<u8>, FolderErr>, bytes: &[u8]) -> bool {
-    match read {
-        Ok(found) => found.as_slice() == bytes,
-        Err(_) => false,
-    }
+// The same of a quiet folder, under this path.
+fn asked_quiet(alloc: Global, at: &[u8]) -> Result<[Answer; 4], Memory> {
+    let at = Text::of(alloc, at)?;
+    let main = Text::of(alloc, b"main.lua")?;
+    let other = Text::of(alloc, b"a/b.lua")?;
+    let mut folder = QuietFolder::new(game(alloc)?);
+    Ok(asked(alloc, &mut folder, &at, &main, &other))
 }
 
 #[test]
 fn calls_fail_by_their_numbers(rt: HostRuntime) -> Result<(), Fail> {
-    let at = Text::of(rt.alloc(), b"game")?;
-    let main = Text::of(rt.alloc(), b"main.lua")?;
-    let other = Text::of(rt.alloc(), b"a/b.lua")?;
+    let (right, failed) = (Answer::Right, Answer::Failed);
     let rows = [
-        ([].as_slice(), [true, true, true, true]),
-        (&[1], [false, true, true, true]),
-        (&[2], [true, false, true, true]),
-        (&[4, 2], [true, false, true, false]),
-        (&[3, 3, 1, 9], [false, true, false, true]),
-        (&[0, 5], [true, true, true, true]),
-        (&[4, 3, 2, 1], [false, false, false, false]),
+        ([].as_slice(), [right, right, right, right]),
+        (&[1], [failed, right, right, right]),
+        (&[2], [right, failed, right, right]),
+        (&[4, 2], [right, failed, right, failed]),
+        (&[3, 3, 1, 9], [failed, right, failed, right]),
+        (&[0, 5], [right, right, right, right]),
+        (&[4, 3, 2, 1], [failed, failed, failed, failed]),
     ];
-    for (numbers, succeed) in rows {
-        let fails = Vec::from_slice(rt.alloc(), numbers)?;
-        let mut folder = MemFolder::new(game(rt.alloc())?, fails);
-        let found = asked(rt.alloc(), &mut folder, &at, &main, &other);
-        let failed = [
-            matches!(found.first, Err(FolderErr::Failed)),
-            matches!(found.one, Err(FolderErr::Failed)),
-            matches!(found.other, Err(FolderErr::Failed)),
-            matches!(found.last, Err(FolderErr::Failed)),
-        ];
-        let given = [
-            are_both_paths(&found.first),
-            is_content(&found.one, b"return"),
-            is_content(&found.other, b""),
-            are_both_paths(&found.last),
-        ];
-        for (call, succeeds) in succeed.iter().enumerate() {
-            assert_eq!(rt; given.get(call), Some(succeeds), "{numbers:?}, call {call}");
-            assert!(rt;
-                failed.get(call) != Some(succeeds),
-                "{numbers:?}, call {call}"
-            );
-        }
+    for (numbers, answers) in rows {
+        let found = asked_failing(rt.alloc(), numbers)?;
+        assert!(rt; found == answers, "{numbers:?}");
     }
     Ok(())
 }
 
 #[test]
 fn a_quiet_folder_never_fails(rt: HostRuntime) -> Result<(), Fail> {
-    let main = Text::of(rt.alloc(), b"main.lua")?;
-    let other = Text::of(rt.alloc(), b"a/b.lua")?;
     for at in [b"".as_slice(), b"game", b"\xff"] {
-        let at = Text::of(rt.alloc(), at)?;
-        let mut folder = QuietFolder::new(game(rt.alloc())?);
-        let found = asked(rt.alloc(), &mut folder, &at, &main, &other);
-        assert!(rt; are_both_paths(&found.first), "{found:?}");
-        assert!(rt; is_content(&found.one, b"return"), "{found:?}");
-        assert!(rt; is_content(&found.other, b""), "{found:?}");
-        assert!(rt; are_both_paths(&found.last), "{found:?}");
+        let found = asked_quiet(rt.alloc(), at)?;
+        assert!(rt; found == [Answer::Right; 4], "{at:?}");
     }
     Ok(())
 }
 
+fn listed<F: Folder>(alloc: Global, folder: &mut F) -> Result<Answer, Memory> {
+    let at = Text::of(alloc, b"")?;
+    Ok(of_listing(folder.list(alloc, &at), &[]))
+}
+
 #[test]
 fn a_folder_may_be_empty(rt: HostRuntime) -> Result<(), Fail> {
-    let at = Text::of(rt.alloc(), b"")?;
-    let mut quiet = QuietFolder::new(Vec::new(rt.alloc()));
-    assert!(rt; quiet.list(rt.alloc(), &at)?.is_empty());
-    let mut failing = MemFolder::new(Vec::new(rt.alloc()), vec![in rt.alloc(); 2]?);
-    assert!(rt; failing.list(rt.alloc(), &at)?.is_empty());
-    let second = failing.list(rt.alloc(), &at);
-    assert!(rt; matches!(second, Err(FolderErr::Failed)));
+    let alloc = rt.alloc();
+    let mut quiet = QuietFolder::new(Vec::new(alloc));
+    assert!(rt; listed(alloc, &mut quiet)? == Answer::Right);
+    let mut failing = MemFolder::new(Vec::new(alloc), vec![in alloc; 2]?);
+    assert!(rt; listed(alloc, &mut failing)? == Answer::Right);
+    assert!(rt; listed(alloc, &mut failing)? == Answer::Failed);
     Ok(())
 }

@@ -1,6 +1,7 @@
 ghost use Rattle.std.specs.Prelude.{◌<◌, length};
 
 use crate::{CountSink, MemSink, Sink, SinkErr};
+use std::alloc::Global;
 use std::test::Fail;
 
 // What a sink answers to one piece and then another.
@@ -9,6 +10,22 @@ fn written<S: Sink>(sink: &mut S, one: &[u8], other: &[u8]) -> [Result<usize, Si
     requires other { 0 < length other.now }
 {
     [sink.write(one), sink.write(other)]
+}
+
+// Whether a sink that takes so many bytes a call, and whose calls of these numbers fail, answers so
+// and takes these bytes.
+fn answers(
+    alloc: Global,
+    most: usize,
+    numbers: &[u64],
+    answers: [Result<usize, SinkErr>; 2],
+    taken: &[u8],
+) -> Result<bool, Fail>
+    requires { 0 < most }
+{
+    let mut sink = MemSink::new(alloc, most, Vec::from_slice(alloc, numbers)?);
+    let found = written(&mut sink, b"hello", b"world !");
+    Ok(found == answers && sink.taken() == taken)
 }
 
 #[test]
@@ -25,12 +42,9 @@ fn a_sink_takes_at_most_so_many_and_fails_where_it_is_told(rt: HostRuntime) -> R
         (3, &[2, 1, 2], [failed, failed], b""),
         (3, &[0, 3], [Ok(3), Ok(3)], b"helwor"),
     ];
-    for (most, numbers, answers, taken) in rows {
-        let fails = Vec::from_slice(rt.alloc(), numbers)?;
-        assert!(rt; most > 0);
-        let mut sink = MemSink::new(rt.alloc(), most, fails);
-        assert_eq!(rt; written(&mut sink, b"hello", b"world !"), answers);
-        assert_eq!(rt; sink.taken(), taken, "{most} a call, {numbers:?}");
+    for (most, numbers, wanted, taken) in rows {
+        let right = most > 0 && answers(rt.alloc(), most, numbers, wanted, taken)?;
+        assert!(rt; right, "{most} a call, {numbers:?}");
     }
     Ok(())
 }
@@ -38,7 +52,7 @@ fn a_sink_takes_at_most_so_many_and_fails_where_it_is_told(rt: HostRuntime) -> R
 #[test]
 fn a_counting_sink_takes_all(rt: HostRuntime) {
     let mut sink = CountSink::new();
-    assert_eq!(rt; sink.taken(), 0);
-    assert_eq!(rt; written(&mut sink, b"a", &[0; 5000]), [Ok(1), Ok(5000)]);
-    assert_eq!(rt; sink.taken(), 5001);
+    assert!(rt; sink.taken() == 0);
+    assert!(rt; written(&mut sink, b"a", &[0; 5000]) == [Ok(1), Ok(5000)]);
+    assert!(rt; sink.taken() == 5001);
 }

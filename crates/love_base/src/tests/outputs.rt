@@ -47,8 +47,8 @@ fn an_output_that_takes_nothing_fails(rt: HostRuntime) {
     ];
     for (output, answer) in rows {
         let mut sink = RealSink::new(output);
-        assert_eq!(rt; sink.write(b"four"), answer);
-        assert_eq!(rt; sink.write(b"four"), answer, "the second time");
+        let (first, second) = (sink.write(b"four"), sink.write(b"four"));
+        assert!(rt; first == answer && second == answer, "{answer:?}");
     }
 }
 
@@ -57,6 +57,6 @@ fn standard_output_takes_a_newline(rt: HostRuntime) -> Result<(), Fail> {
     let alloc = rt.alloc();
     let mut sink = RealSink::new(rt.clone()?);
     let newline = Vec::from_slice(alloc, b"\n")?;
-    assert_eq!(rt; sink.write(&newline), Ok(1));
+    assert!(rt; sink.write(&newline) == Ok(1));
     Ok(())
 }

@@ -1,226 +1,228 @@
-use crate::{Folder, FolderErr, RealFolder, Text};
+use crate::{Folder, FolderErr, Memory, RealFolder, Text};
 use std::os::unix::fs::{PermissionsExt, symlink};
 use std::test::Fail;
 use std::{fs, process};
 
-// A fresh folder below `/tmp`, which the test removes.
-fn fresh_folder(rt: &HostRuntime, test: &str) -> Result<String, Fail> {
-    let id = process::id(rt.process());
-    let folder = format!(in rt.alloc(); "/tmp/love_base_{test}_{id}")?;
-    if fs::exists(rt, folder.as_str())? {
-        fs::remove_dir_all(rt, folder.as_str())?;
-    }
-    fs::create_dir(rt, folder.as_str())?;
-    Ok(folder)
+// What is made in a folder, by its path there.
+#[derive(Clone, Copy)]
+enum Entry<'a> {
+    Folder(&'a str),
+    File(&'a str, &'a [u8]),
+    Link(&'a str, &'a str),
 }
 
-fn make_folder(rt: &HostRuntime, root: &str, path: &str) -> Result<(), Fail> {
-    fs::create_dir_all(rt, format!(in rt.alloc(); "{root}/{path}")?)?;
-    Ok(())
-}
-
-fn make_file(rt: &HostRuntime, root: &str, path: &str, bytes: &[u8]) -> Result<(), Fail> {
-    fs::write(rt, format!(in rt.alloc(); "{root}/{path}")?, bytes)?;
-    Ok(())
-}
-
-fn make_link(rt: &HostRuntime, root: &str, path: &str, to: &str) -> Result<(), Fail> {
-    symlink(rt, to, format!(in rt.alloc(); "{root}/{path}")?)?;
-    Ok(())
-}
-
-// The paths that the real folder lists, each ended by a newline.
-fn listing(rt: &HostRuntime, at: &[u8]) -> Result<Result<String, FolderErr>, Fail> {
-    let at = Text::of(rt.alloc(), at)?;
-    let mut folder = RealFolder::new(rt.clone()?);
-    match folder.list(rt.alloc(), &at) {
-        Ok(names) => {
-            let mut lines = String::new(rt.alloc());
-            for name in &names {
-                lines.push_str(str::from_utf8(name.bytes())?)?;
-                lines.push('\n')?;
-            }
-            Ok(Ok(lines))
+fn make(rt: &HostRuntime, root: &str, entry: Entry<'_>) -> Result<(), Fail> {
+    match entry {
+        Entry::Folder(path) => fs::create_dir_all(rt, format!(in rt.alloc(); "{root}/{path}")?)?,
+        Entry::File(path, bytes) => {
+            fs::write(rt, format!(in rt.alloc(); "{root}/{path}")?, bytes)?;
         }
-        Err(fault) => Ok(Err(fault)),
+        Entry::Link(path, to) => symlink(rt, to, format!(in rt.alloc(); "{root}/{path}")?)?,
+    }
+    Ok(())
+}
+
+// A fresh folder below `/tmp` with these entries, which the test removes.
+fn fresh_folder(rt: &HostRuntime, test: &str, entries: &[Entry<'_>]) -> Result<String, Fail> {
+    let id = process::id(rt.process());
+    let root = format!(in rt.alloc(); "/tmp/love_base_{test}_{id}")?;
+    if fs::exists(rt, root.as_str())? {
+        fs::remove_dir_all(rt, root.as_str())?;
+    }
+    fs::create_dir(rt, root.as_str())?;
+    for entry in entries {
+        make(rt, root.as_str(), *entry)?;
+    }
+    Ok(root)
+}
+
+// The names, each ended by a newline.
+fn lines(rt: &HostRuntime, names: &[Text]) -> Result<String, Fail> {
+    let mut lines = String::new(rt.alloc());
+    for name in names {
+        lines.push_str(str::from_utf8(name.bytes())?)?;
+        lines.push('\n')?;
+    }
+    Ok(lines)
+}
+
+// Whether the real folder lists so much, or fails.
+fn lists(rt: &HostRuntime, at: &[u8], wanted: Option<&str>) -> Result<bool, Fail> {
+    let at = Text::of(rt.alloc(), at)?;
+    match RealFolder::new(rt.clone()?).list(rt.alloc(), &at) {
+        Ok(names) => Ok(Some(lines(rt, &names)?.as_str()) == wanted),
+        Err(FolderErr::Failed) => Ok(wanted.is_none()),
+        Err(FolderErr::Memory) => Err(Memory.into()),
     }
 }
 
-// What the real folder reads.
-fn reading(rt: &HostRuntime, at: &[u8], name: &[u8]) -> Result<Result<Vec<u8>, FolderErr>, Fail> {
-    let at = Text::of(rt.alloc(), at)?;
+// What the real folder reads, or nothing where it fails.
+fn reading(rt: &HostRuntime, at: &str, name: &[u8]) -> Result<Option<Vec<u8>>, Fail> {
+    let at = Text::of(rt.alloc(), at.as_bytes())?;
     let name = Text::of(rt.alloc(), name)?;
-    let mut folder = RealFolder::new(rt.clone()?);
-    Ok(folder.read(rt.alloc(), &at, &name))
+    match RealFolder::new(rt.clone()?).read(rt.alloc(), &at, &name) {
+        Ok(bytes) => Ok(Some(bytes)),
+        Err(FolderErr::Failed) => Ok(None),
+        Err(FolderErr::Memory) => Err(Memory.into()),
+    }
+}
+
+fn is_content(read: &Option<Vec<u8>>, wanted: Option<&[u8]>) -> bool {
+    match read {
+        Some(bytes) => Some(bytes.as_slice()) == wanted,
+        None => wanted.is_none(),
+    }
+}
+
+// Lists the folders of these paths in a fresh folder.
+fn check_lists(
+    rt: &HostRuntime,
+    test: &str,
+    entries: &[Entry<'_>],
+    rows: &[(&str, Option<&str>)],
+) -> Result<(), Fail> {
+    let root = fresh_folder(rt, test, entries)?;
+    for (path, wanted) in rows {
+        let at = format!(in rt.alloc(); "{root}{path}")?;
+        if !lists(rt, at.as_bytes(), *wanted)? {
+            return Err(at.as_str().into());
+        }
+    }
+    fs::remove_dir_all(rt, root.as_str())?;
+    Ok(())
 }
 
 #[test]
 fn lists_the_files_of_nested_folders_in_byte_order(rt: HostRuntime) -> Result<(), Fail> {
-    let root = fresh_folder(&rt, "nested")?;
-    for path in ["a/deep/deeper", "b", "empty/empty", "a b"] {
-        make_folder(&rt, &root, path)?;
-    }
-    for path in [
-        "main.lua",
-        "a/deep/deeper/x",
-        "a/y",
-        "b/.hidden",
-        "a b/z",
-        "a.lua",
-        "é",
-    ] {
-        make_file(&rt, &root, path, b"")?;
-    }
-    make_link(&rt, &root, "nowhere", "missing")?;
-    make_link(&rt, &root, "b/linked", "../main.lua")?;
-    make_link(&rt, &root, "other", "a/deep")?;
-    let listed = listing(&rt, root.as_bytes())?;
-    let want =
+    let entries = [
+        Entry::Folder("a/deep/deeper"),
+        Entry::Folder("b"),
+        Entry::Folder("empty/empty"),
+        Entry::Folder("a b"),
+        Entry::File("main.lua", b""),
+        Entry::File("a/deep/deeper/x", b""),
+        Entry::File("a/y", b""),
+        Entry::File("b/.hidden", b""),
+        Entry::File("a b/z", b""),
+        Entry::File("a.lua", b""),
+        Entry::File("é", b""),
+        Entry::Link("nowhere", "missing"),
+        Entry::Link("b/linked", "../main.lua"),
+        Entry::Link("other", "a/deep"),
+    ];
+    let listed =
         "a b/z\na.lua\na/deep/deeper/x\na/y\nb/.hidden\nb/linked\nmain.lua\nother/deeper/x\né\n";
-    match &listed {
-        Ok(lines) => assert_eq!(rt; lines.as_str(), want),
-        Err(fault) => panic!(rt; "{fault:?}"),
-    }
-    fs::remove_dir_all(&rt, root.as_str())?;
-    Ok(())
+    check_lists(&rt, "nested", &entries, &[("", Some(listed))])
 }
 
 #[test]
 fn lists_an_empty_folder_and_no_missing_one(rt: HostRuntime) -> Result<(), Fail> {
-    let root = fresh_folder(&rt, "empty")?;
-    make_folder(&rt, &root, "empty")?;
-    make_file(&rt, &root, "file", b"")?;
-    make_link(&rt, &root, "nowhere", "missing")?;
-    make_link(&rt, &root, "linked", "empty")?;
-    let rows = [
-        ("empty", Ok("")),
-        ("linked", Ok("")),
-        ("empty/", Ok("")),
-        ("missing", Err(FolderErr::Failed)),
-        ("file", Err(FolderErr::Failed)),
-        ("nowhere", Err(FolderErr::Failed)),
-        ("a\0b", Err(FolderErr::Failed)),
+    let entries = [
+        Entry::Folder("empty"),
+        Entry::File("file", b""),
+        Entry::Link("nowhere", "missing"),
+        Entry::Link("linked", "empty"),
     ];
-    for (path, answer) in rows {
-        let at = format!(in rt.alloc(); "{root}/{path}")?;
-        let listed = listing(&rt, at.as_bytes())?;
-        match (&listed, answer) {
-            (Ok(lines), Ok(want)) => assert_eq!(rt; lines.as_str(), want, "{path}"),
-            (Err(fault), Err(want)) => assert_eq!(rt; *fault, want, "{path}"),
-            _ => panic!(rt; "{path:?}: {listed:?}"),
-        }
-    }
+    let rows = [
+        ("/empty", Some("")),
+        ("/linked", Some("")),
+        ("/empty/", Some("")),
+        ("/missing", None),
+        ("/file", None),
+        ("/nowhere", None),
+        ("/a\0b", None),
+    ];
+    check_lists(&rt, "empty", &entries, &rows)
+}
+
+#[test]
+fn lists_no_folder_without_a_name(rt: HostRuntime) -> Result<(), Fail> {
     for path in [b"".as_slice(), b"/tmp/\xff"] {
-        let listed = listing(&rt, path)?;
-        assert!(rt; matches!(listed, Err(FolderErr::Failed)), "{path:?}");
+        assert!(rt; lists(&rt, path, None)?, "{path:?}");
     }
-    fs::remove_dir_all(&rt, root.as_str())?;
     Ok(())
 }
 
 #[test]
 fn lists_sixteen_nested_folders_and_not_seventeen(rt: HostRuntime) -> Result<(), Fail> {
-    let root = fresh_folder(&rt, "deep")?;
-    let sixteen = "1/2/3/4/5/6/7/8/9/10/11/12/13/14/15/16";
-    make_folder(&rt, &root, sixteen)?;
-    let file = format!(in rt.alloc(); "{sixteen}/file")?;
-    make_file(&rt, &root, &file, b"")?;
-    let listed = listing(&rt, root.as_bytes())?;
-    let want = format!(in rt.alloc(); "{file}\n")?;
-    match &listed {
-        Ok(lines) => assert_eq!(rt; lines.as_str(), want.as_str()),
-        Err(fault) => panic!(rt; "{fault:?}"),
-    }
-    let seventeen = format!(in rt.alloc(); "{sixteen}/17")?;
-    make_folder(&rt, &root, &seventeen)?;
-    let listed = listing(&rt, root.as_bytes())?;
-    assert!(rt; matches!(listed, Err(FolderErr::Failed)), "{listed:?}");
-    fs::remove_dir_all(&rt, root.as_str())?;
-    Ok(())
+    let sixteen = Entry::Folder("1/2/3/4/5/6/7/8/9/10/11/12/13/14/15/16");
+    let file = Entry::File("1/2/3/4/5/6/7/8/9/10/11/12/13/14/15/16/file", b"");
+    let listed = "1/2/3/4/5/6/7/8/9/10/11/12/13/14/15/16/file\n";
+    check_lists(&rt, "sixteen", &[sixteen, file], &[("", Some(listed))])?;
+    let seventeen = Entry::Folder("1/2/3/4/5/6/7/8/9/10/11/12/13/14/15/16/17");
+    check_lists(&rt, "seventeen", &[seventeen, file], &[("", None)])
 }
 
+// No file system has names of over 255 bytes: the system can't look at what such a link leads to,
+// and doesn't say that it leads nowhere.
 #[test]
-fn lists_no_link_to_itself(rt: HostRuntime) -> Result<(), Fail> {
-    let root = fresh_folder(&rt, "loop")?;
-    make_link(&rt, &root, "again", ".")?;
-    let listed = listing(&rt, root.as_bytes())?;
-    assert!(rt; matches!(listed, Err(FolderErr::Failed)), "{listed:?}");
-    fs::remove_dir_all(&rt, root.as_str())?;
-    Ok(())
-}
-
-// No file system has names of over 255 bytes, so that the system can't look at what such a link
-// leads to, and doesn't say that it leads nowhere.
-#[test]
-fn passes_over_no_link_that_cannot_be_looked_at(rt: HostRuntime) -> Result<(), Fail> {
-    let root = fresh_folder(&rt, "unseen")?;
+fn lists_no_link_to_itself_and_none_that_cannot_be_looked_at(rt: HostRuntime) -> Result<(), Fail> {
+    check_lists(&rt, "loop", &[Entry::Link("again", ".")], &[("", None)])?;
     let name = [b'x'; 300];
-    make_link(&rt, &root, "link", str::from_utf8(&name)?)?;
-    let listed = listing(&rt, root.as_bytes())?;
-    assert!(rt; matches!(listed, Err(FolderErr::Failed)), "{listed:?}");
-    fs::remove_dir_all(&rt, root.as_str())?;
-    Ok(())
-}
-
-#[test]
-fn reads_no_more_than_shows_that_a_file_is_too_long(rt: HostRuntime) -> Result<(), Fail> {
-    let root = fresh_folder(&rt, "long")?;
-    let path = format!(in rt.alloc(); "{root}/main.lua")?;
-    fs::create(&rt, path.as_str())?.set_len(67_108_866)?;
-    let read = reading(&rt, root.as_bytes(), b"main.lua")?;
-    assert!(rt; read.is_ok_and(|bytes| bytes.len() == 67_108_865));
-    fs::remove_dir_all(&rt, root.as_str())?;
-    Ok(())
+    let long = Entry::Link("long", str::from_utf8(&name)?);
+    check_lists(&rt, "long", &[long], &[("", None)])
 }
 
 #[test]
 fn reads_what_a_file_holds(rt: HostRuntime) -> Result<(), Fail> {
-    let root = fresh_folder(&rt, "read")?;
-    make_folder(&rt, &root, "a")?;
-    let many = vec![in rt.alloc(); b'x'; 100_000]?;
-    make_file(&rt, &root, "main.lua", b"any\0bytes\xff")?;
-    make_file(&rt, &root, "a/none", b"")?;
-    make_file(&rt, &root, "many", &many)?;
-    make_link(&rt, &root, "nowhere", "missing")?;
-    let rows = [
-        (b"main.lua".as_slice(), Ok(b"any\0bytes\xff".as_slice())),
-        (b"a/none", Ok(b"")),
-        (b"many", Ok(many.as_slice())),
-        (b"missing", Err(FolderErr::Failed)),
-        (b"nowhere", Err(FolderErr::Failed)),
-        (b"a", Err(FolderErr::Failed)),
-        (b"main.lua/none", Err(FolderErr::Failed)),
-        (b"\xff", Err(FolderErr::Failed)),
+    let many = [b'x'; 100_000];
+    let entries = [
+        Entry::Folder("a"),
+        Entry::File("main.lua", b"any\0bytes\xff"),
+        Entry::File("a/none", b""),
+        Entry::File("many", &many),
+        Entry::Link("nowhere", "missing"),
     ];
-    for (name, answer) in rows {
-        let read = reading(&rt, root.as_bytes(), name)?;
-        match (&read, answer) {
-            (Ok(bytes), Ok(want)) => assert!(rt; bytes.as_slice() == want, "{name:?}"),
-            (Err(fault), Err(want)) => assert_eq!(rt; *fault, want, "{name:?}"),
-            _ => panic!(rt; "{name:?}: {read:?}"),
-        }
+    let root = fresh_folder(&rt, "read", &entries)?;
+    let rows = [
+        (b"main.lua".as_slice(), Some(b"any\0bytes\xff".as_slice())),
+        (b"a/none", Some(b"")),
+        (b"many", Some(&many)),
+        (b"missing", None),
+        (b"nowhere", None),
+        (b"a", None),
+        (b"main.lua/none", None),
+        (b"\xff", None),
+    ];
+    for (name, wanted) in rows {
+        let read = reading(&rt, root.as_str(), name)?;
+        assert!(rt; is_content(&read, wanted), "{name:?}");
     }
     fs::remove_dir_all(&rt, root.as_str())?;
+    Ok(())
+}
+
+// The first 67,108,865 bytes show that it has more than a whole game may have.
+#[test]
+fn reads_a_file_that_is_too_long_only_in_part(rt: HostRuntime) -> Result<(), Fail> {
+    let root = fresh_folder(&rt, "long_file", &[])?;
+    let path = format!(in rt.alloc(); "{root}/main.lua")?;
+    fs::create(&rt, path.as_str())?.set_len(67_108_866)?;
+    let read = reading(&rt, root.as_str(), b"main.lua")?;
+    assert!(rt; read.is_some_and(|bytes| bytes.len() == 67_108_865));
+    fs::remove_dir_all(&rt, root.as_str())?;
+    Ok(())
+}
+
+fn set_mode(rt: &HostRuntime, root: &str, path: &str, mode: u32) -> Result<(), Fail> {
+    let path = format!(in rt.alloc(); "{root}/{path}")?;
+    fs::set_permissions(rt, path, fs::Permissions::from_mode(mode))?;
     Ok(())
 }
 
 // The superuser may read all, so the test first sees whether the mode bars anything.
 #[test]
 fn neither_reads_nor_lists_what_it_may_not(rt: HostRuntime) -> Result<(), Fail> {
-    let root = fresh_folder(&rt, "barred")?;
-    make_folder(&rt, &root, "folder")?;
-    make_file(&rt, &root, "file", b"secret")?;
+    let entries = [Entry::Folder("folder"), Entry::File("file", b"secret")];
+    let root = fresh_folder(&rt, "barred", &entries)?;
+    set_mode(&rt, root.as_str(), "file", 0)?;
+    set_mode(&rt, root.as_str(), "folder", 0)?;
     let file = format!(in rt.alloc(); "{root}/file")?;
-    let folder = format!(in rt.alloc(); "{root}/folder")?;
-    fs::set_permissions(&rt, file.as_str(), fs::Permissions::from_mode(0))?;
-    fs::set_permissions(&rt, folder.as_str(), fs::Permissions::from_mode(0))?;
     if fs::read(&rt, file.as_str()).is_err() {
-        let read = reading(&rt, root.as_bytes(), b"file")?;
-        assert!(rt; matches!(read, Err(FolderErr::Failed)), "{read:?}");
-        let listed = listing(&rt, root.as_bytes())?;
-        assert!(rt; matches!(listed, Err(FolderErr::Failed)), "{listed:?}");
+        assert!(rt; reading(&rt, root.as_str(), b"file")?.is_none());
+        assert!(rt; lists(&rt, root.as_bytes(), None)?);
     }
-    fs::set_permissions(&rt, folder.as_str(), fs::Permissions::from_mode(0o700))?;
+    set_mode(&rt, root.as_str(), "folder", 0o700)?;
     fs::remove_dir_all(&rt, root.as_str())?;
     Ok(())
 }

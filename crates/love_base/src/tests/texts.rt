@@ -1,17 +1,34 @@
 use crate::{Memory, Stamp, Text};
+use std::alloc::Global;
 use std::cmp::Ordering;
 use std::test::Fail;
+
+// Whether a text of these bytes, its copy and a text of their vector hold them.
+fn keeps(alloc: Global, bytes: &[u8]) -> Result<bool, Memory> {
+    let text = Text::of(alloc, bytes)?;
+    let copy = text.copy(alloc)?;
+    let vector = Text::from_vec(Vec::from_slice(alloc, bytes)?);
+    Ok(text.bytes() == bytes && copy.bytes() == bytes && vector.bytes() == bytes)
+}
 
 #[test]
 fn a_text_keeps_any_bytes(rt: HostRuntime) -> Result<(), Fail> {
     for bytes in [b"".as_slice(), b"a", b"two\0lines\n", b"\xff\x80"] {
-        let text = Text::of(rt.alloc(), bytes)?;
-        assert_eq!(rt; text.bytes(), bytes);
-        assert_eq!(rt; text.copy(rt.alloc())?.bytes(), bytes);
-        let vector = Vec::from_slice(rt.alloc(), bytes)?;
-        assert_eq!(rt; Text::from_vec(vector).bytes(), bytes);
+        assert!(rt; keeps(rt.alloc(), bytes)?, "{bytes:?}");
     }
     Ok(())
+}
+
+// Whether these texts are in this order, and the other way round in the reverse one.
+fn compare_so(alloc: Global, left: &[u8], right: &[u8], order: Ordering) -> Result<bool, Memory> {
+    let left = Text::of(alloc, left)?;
+    let right = Text::of(alloc, right)?;
+    Ok(
+        left.cmp(&right) == order
+            && right.cmp(&left) == order.reverse()
+            && left.partial_cmp(&right) == Some(order)
+            && (left == right) == (order == Ordering::Equal),
+    )
 }
 
 // The least of three, by the order of their type alone.
@@ -32,19 +49,17 @@ fn texts_are_in_byte_order(rt: HostRuntime) -> Result<(), Fail> {
         (b"main.lua", b"main.lua", Ordering::Equal),
     ];
     for (left, right, order) in rows {
-        let left = Text::of(rt.alloc(), left)?;
-        let right = Text::of(rt.alloc(), right)?;
-        assert_eq!(rt; left.cmp(&right), order, "{left:?} and {right:?}");
-        assert_eq!(rt; right.cmp(&left), order.reverse());
-        assert_eq!(rt; left.partial_cmp(&right), Some(order));
-        assert_eq!(rt; left == right, order == Ordering::Equal);
+        assert!(rt;
+            compare_so(rt.alloc(), left, right, order)?,
+            "{left:?} and {right:?}"
+        );
     }
     let first = least(
         Text::of(rt.alloc(), b"b")?,
         Text::of(rt.alloc(), b"ab")?,
         Text::of(rt.alloc(), b"abc")?,
     );
-    assert_eq!(rt; first.bytes(), b"ab".as_slice());
+    assert!(rt; first.bytes() == b"ab".as_slice());
     Ok(())
 }
 
@@ -54,26 +69,11 @@ fn stamps_are_told_apart(rt: HostRuntime) {
         state: 0,
         number: 1,
     };
-    assert_eq!(rt;
-        stamp,
-        Stamp {
-            state: 0,
-            number: 1
-        }
-    );
-    assert!(rt;
-        stamp
-            != Stamp {
-                state: 1,
-                number: 1
-            }
-    );
-    assert!(rt;
-        stamp
-            != Stamp {
-                state: 0,
-                number: 2
-            }
-    );
-    assert_eq!(rt; Memory, Memory);
+    for (state, number, same) in [(0, 1, true), (1, 1, false), (0, 2, false)] {
+        assert!(rt;
+            (stamp == Stamp { state, number }) == same,
+            "{state}, {number}"
+        );
+    }
+    assert!(rt; Memory == Memory);
 }

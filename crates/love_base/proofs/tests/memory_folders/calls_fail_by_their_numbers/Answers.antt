@@ -1,6 +1,0 @@
-use Rattle.std.proofs.Common.{refl}
-use Rattle.love_base.proofs.Distinct.{two_files_differ}
-use Rattle.love_base.proofs.tests.memory_folders.calls_fail_by_their_numbers.Goals as goal
-
-pub new-folder-requires : goal.new-folder-requires
-new-folder-requires g c = two_files_differ _ _ _ c.in_ok-game.ensures refl
