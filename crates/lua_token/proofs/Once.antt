@@ -190,19 +190,27 @@ answer_once source (Err f) (Err g) (inl p) (inr q) = absurd (omega (arith, p.0, 
 answer_once source (Err f) (Err g) (inr p) (inl q) = absurd (omega (arith, p.0, q.0))
 answer_once source (Err f) (Err g) (inr p) (inr q) = ap (λ v. Err v) (one_fault source f g p.1 q.1)
 
-pub gives_only : (source : List ℕ) (result : Result (Vec Token) LexFault) (answer : Result (List Token) LexFault)
+pub outcome_found : (source : List ℕ) (result : Result (Vec Token) LexFault) → answers.IsOutcome source result
     → IfOk result (λ tokens. answers.IsTokensAnswer source (Ok tokens.items))
+outcome_found source (Ok v) is = is
+outcome_found source (Err f) is = tt
+
+pub outcome_fault : (source : List ℕ) (result : Result (Vec Token) LexFault) → answers.IsOutcome source result
     → IfErr result (λ fault. (fault ≡ answers.no_memory) ⊎ answers.IsTokensAnswer source (Err fault))
-    → answers.IsTokensAnswer source answer → answers.Gives result answer
-gives_only source (Ok v) answer found fault h = answer_once source answer (Ok v.items) h found
-gives_only source (Err f) answer found (inl none) h = inl none
-gives_only source (Err f) answer found (inr is) h = inr (answer_once source answer (Err f) h is)
+outcome_fault source (Ok v) is = tt
+outcome_fault source (Err f) is = is
+
+pub gives_only : (source : List ℕ) (result : Result (Vec Token) LexFault) (answer : Result (List Token) LexFault)
+    → answers.IsOutcome source result → answers.IsTokensAnswer source answer → answers.Gives result answer
+gives_only source (Ok v) answer found h = answer_once source answer (Ok v.items) h found
+gives_only source (Err f) answer (inl none) h = inl none
+gives_only source (Err f) answer (inr is) h = inr (answer_once source answer (Err f) h is)
 
 all_between : (source : List ℕ) {place end : ℕ} {ts : List Token} → Between source place ts end → AllByRecursion (StandsIn source) ts
 all_between source Between.nothing = tt
 all_between source (then_blank n at h) = all_between source h
 all_between source (then_token t start at h) = (at, all_between source h)
 
-pub all_stand : (source : List ℕ) (result : Result (Vec Token) LexFault) → IfOk result (λ tokens. answers.IsTokensAnswer source (Ok tokens.items)) → IfOk result (λ tokens. All (StandsIn source) tokens.items)
+pub all_stand : (source : List ℕ) (result : Result (Vec Token) LexFault) → answers.IsOutcome source result → IfOk result (λ tokens. All (StandsIn source) tokens.items)
 all_stand source (Ok v) found = All-from_recursion (StandsIn source) v.items (all_between source found.1)
 all_stand source (Err f) found = tt

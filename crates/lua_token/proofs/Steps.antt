@@ -37,3 +37,9 @@ line_bound source place = omega (arith, count_by-le-length (λ (b : ℕ). b == 1
 pub taken : (source : List ℕ) (ts us : List Token) (place line n : ℕ) (step : Step) → Between source 0 ts place → line ≡ line_of source place
     → StandsAt (drop place source) (Ok step) → place + step_length step ≤ length source → us ≡ ts ++ tokens_of step place line → n ≡ step_length step → Between source 0 us (place + n)
 taken source ts us place line n step h e at within us_is n_is = rw (us_is, n_is) (extended source ts place line step h e at within)
+
+-- whole steps so far, and one more
+pub further : (source : List ℕ) (ts : List Token) (place n : ℕ) (step : Step) → Between source 0 ts place → StandsAt (drop place source) (Ok step)
+    → place + step_length step ≤ length source → n ≡ step_length step → (us : List Token) × Between source 0 us (place + n)
+further source ts place n step h at within n_is =
+    (ts ++ tokens_of step place (line_of source place), rw n_is (extended source ts place (line_of source place) step h refl at within))

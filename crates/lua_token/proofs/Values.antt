@@ -7,6 +7,8 @@ use Rattle.lua_token.specs.Bytes.{is_of}
 use Rattle.lua_token.specs.declared.bytes.Class.TheVariants.{InName}
 use Rattle.lua_value.specs.declared.numeral.NumeralFault.{NumeralFault}
 use Rattle.lua_value.specs.declared.numeral.NumeralFault.TheVariants as numeral
+use Rattle.lua_token.specs.Cuts.{StandsIn}
+use Rattle.lua_token.specs.Run.{number_length}
 use Rattle.lua_token.specs.Long.{FirstClosing}
 use Rattle.lua_token.specs.Quoted.{character_at, Characters}
 use Rattle.lua_token.specs.Place.{begins, QuoteEnds, Stands, StandsAt, number_step, symbol_step, comment_step}
@@ -14,7 +16,7 @@ use Rattle.lua_token.specs.Spelling.{spelling, word_kind, keyword_of, symbol_at}
 use Rattle.lua_token.specs.Value.{QuotedBytes, LongBytes, StringBytes, HasValue, long_bytes}
 use Rattle.lua_token.specs.declared.fault.LexWhat.{LexWhat}
 use Rattle.lua_token.specs.declared.kind.Kind.{Kind}
-use Rattle.lua_token.specs.declared.kind.Kind.TheVariants.{Str, Name}
+use Rattle.lua_token.specs.declared.kind.Kind.TheVariants.{Str, Name, Number}
 use Rattle.lua_token.specs.declared.quoted.Character.{Character}
 use Rattle.lua_token.specs.declared.quoted.Character.TheVariants.{Byte, Closing, Unfinished, TooLarge}
 use Rattle.lua_token.specs.declared.start.Start.{Start}
@@ -130,3 +132,74 @@ value_once starts.Symbol text a b p q = absurd p
 
 pub one_value : (source : List ℕ) (t : Token) (a b : List ℕ) → HasValue source t a → HasValue source t b → a ≡ b
 one_value source t a b p q = value_once (begins (drop t.start source)) (drop t.start source) a b p q
+
+-- ---- some value
+
+value_there : (x : Start) (text : List ℕ) (size : ℕ) → Stands x text (Ok (Found Str size)) → (bytes : List ℕ) × StringBytes x text bytes
+value_there x text size h =
+    elim (string_begins x text size h) [
+      | inl quote ↦ subst (λ (y : Start). (bytes : List ℕ) × StringBytes y text bytes) (sym quote) (quote_is_closed text size (subst (λ (y : Start). Stands y text (Ok (Found Str size))) quote h))
+      | inr long ↦
+          let closed = long_is_closed long.0 size text (subst (λ (y : Start). Stands y text (Ok (Found Str size))) long.1 h) in
+          subst (λ (y : Start). (bytes : List ℕ) × StringBytes y text bytes) (sym long.1) (long_bytes (take closed.0 (drop (long.0 + 2) text)), (closed.0, closed.1, refl))
+    ]
+
+pub some_value : (source : List ℕ) (t : Token) → StandsIn source t → t.kind ≡ Str → (bytes : List ℕ) × HasValue source t bytes
+some_value source t at is =
+    let text = drop t.start source in
+    value_there (begins text) text t.length (subst (λ (k : Kind). StandsAt text (Ok (Found k t.length))) is at.found)
+
+-- ---- the run of a number
+
+number_at : (z : ℤ) (m n : ℕ) (r : Result ℤ NumeralFault) → ◌≡◌ {A = Result Step LexWhat} (Ok (Found (Number z) n)) (number_step m r) → n ≡ m
+number_at z m n (Ok y) e = cc
+number_at z m n (Err numeral.Malformed) e = absurd cc
+number_at z m n (Err numeral.NotWhole) e = absurd cc
+
+no_number_symbol : (text : List ℕ) (z : ℤ) (n : ℕ) (o : Option Kind) → o ≡ symbol_at text → ◌≡◌ {A = Result Step LexWhat} (Ok (Found (Number z) n)) (symbol_step o) → ⊥
+unfolding spelling
+no_number_symbol text z n (Some k) e f =
+    let k_is : k ≡ Number z = cc in
+    let h = subst (λ (x : Kind). 0 < length (spelling x)) k_is (kind_fits text k e).0 in
+    omega (arith, h)
+no_number_symbol text z n None e f = cc
+
+no_number_word : (word : List ℕ) (z : ℤ) (o : Option Kind) → o ≡ keyword_of word → Number z ≡ unwrap_or o Name → ⊥
+unfolding spelling
+no_number_word word z (Some k) e f =
+    let h = subst (λ (x : Kind). 0 < length (spelling x)) (sym f) (keyword_is_some word k e) in
+    omega (arith, h)
+no_number_word word z None e f = cc
+
+no_number_comment : (z : ℤ) (n : ℕ) (o : Option ℕ) → ◌≡◌ {A = Result Step LexWhat} (Ok (Found (Number z) n)) (comment_step o) → ⊥
+no_number_comment z n (Some m) e = cc
+no_number_comment z n None e = cc
+
+no_number_long : (z : ℤ) (n : ℕ) (o : Option ℕ) → ◌≡◌ {A = Result Step LexWhat} (Ok (Found (Number z) n)) (Rattle.lua_token.specs.Place.long_step o) → ⊥
+no_number_long z n (Some m) e = cc
+no_number_long z n None e = cc
+
+no_number_quote : (z : ℤ) (n m : ℕ) (ch : Character) → QuoteEnds ch m (Ok (Found (Number z) n)) → ⊥
+no_number_quote z n m (Byte b k) h = h
+no_number_quote z n m Closing h = cc
+no_number_quote z n m Unfinished h = cc
+no_number_quote z n m TooLarge h = cc
+
+run_there : (x : Start) (text : List ℕ) (z : ℤ) (n : ℕ) → Stands x text (Ok (Found (Number z) n)) → n ≡ number_length text
+run_there starts.Nothing text z n h = absurd h
+run_there starts.Blank text z n h = absurd cc
+run_there starts.Word text z n h =
+    let word = take (prefix_len (is_of InName) text) text in
+    let kind : Number z ≡ word_kind word = cc in
+    absurd (no_number_word word z (keyword_of word) refl kind)
+run_there starts.Digits text z n (r, a, e) = number_at z (number_length text) n r e
+run_there starts.Quote text z n (bytes, rest, h, e) = absurd (no_number_quote z n _ (character_at (slice_index text 0) rest) e)
+run_there starts.Comment text z n (inl (a, e)) = absurd cc
+run_there starts.Comment text z n (inr (m, o, a, l, e)) = absurd (no_number_comment z n o e)
+run_there (starts.Long m) text z n (o, l, e) = absurd (no_number_long z n o e)
+run_there starts.Symbol text z n h = absurd (no_number_symbol text z n (symbol_at text) refl h)
+
+pub whole_run : (source : List ℕ) (t : Token) (z : ℤ) → StandsIn source t → t.kind ≡ Number z → t.length ≡ number_length (drop t.start source)
+whole_run source t z at is =
+    let text = drop t.start source in
+    run_there (begins text) text z t.length (subst (λ (k : Kind). StandsAt text (Ok (Found k t.length))) is at.found)

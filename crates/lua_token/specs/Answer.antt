@@ -22,6 +22,11 @@ IsTokensAnswer source (Ok ts) = (length source ≤ max_length) × Cuts source ts
 IsTokensAnswer source (Err fault) =
     ((max_length < length source) × (fault ≡ too_long)) ⊎ ((length source ≤ max_length) × Faults source fault)
 
+-- What was returned is the answer, unless memory ran out.
+abbrev pub IsOutcome : List ℕ → Result (Vec Token) LexFault → Type 0
+IsOutcome source (Ok tokens) = IsTokensAnswer source (Ok tokens.items)
+IsOutcome source (Err fault) = (fault ≡ no_memory) ⊎ IsTokensAnswer source (Err fault)
+
 -- What was returned is this answer, unless memory ran out.
 abbrev pub Gives : Result (Vec Token) LexFault → Result (List Token) LexFault → Type 0
 Gives (Ok tokens) answer = answer ≡ Ok tokens.items

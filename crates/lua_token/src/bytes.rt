@@ -1,6 +1,5 @@
 ghost use Rattle.std.specs.Prelude.{◌≡◌, ◌≤◌, length};
 ghost use Rattle.std.specs.List.{prefix_len};
-ghost use Rattle.lua_value.specs.NumberText.{is_blank};
 ghost use Rattle.lua_token.specs.Bytes.{is_letter, is_of};
 
 // The classes of bytes of which longest runs are taken.
@@ -11,13 +10,6 @@ pub(crate) enum Class {
     DigitOrDot,
     Equals,
     InLine,
-}
-
-// Space, tab, newline, vertical tab, form feed or return.
-pub(crate) fn is_blank(b: u8) -> bool
-    ensures { result ≡ is_blank b }
-{
-    b == b' ' || b'\t' <= b && b <= b'\r'
 }
 
 // An ASCII letter or an underscore.

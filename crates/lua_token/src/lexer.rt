@@ -1,7 +1,7 @@
-ghost use Rattle.std.specs.Prelude.{◌≡◌, ◌<◌, ◌≤◌, ◌^◌, ◌⊎◌, ◌++◌, ◌==◌, length, count_by, IfOk, IfErr, OnOk, OnErr, Ok, Err, Result, List, All};
+ghost use Rattle.std.specs.Prelude.{◌≡◌, ◌<◌, ◌^◌, ◌⊎◌, ◌++◌, ◌==◌, count_by, IfOk, IfErr, OnOk, Ok, Err, Result, List, All};
 ghost use Rattle.lua_token.specs.Cuts.{StandsIn, tokens_of};
 ghost use Rattle.lua_token.specs.Place.{step_length};
-ghost use Rattle.lua_token.specs.Answer.{IsTokensAnswer, Gives, no_memory};
+ghost use Rattle.lua_token.specs.Answer.{Gives, IsOutcome, IsTokensAnswer, no_memory};
 ghost use Rattle.lua_token.specs.declared.fault.LexFault.{LexFault as Fault};
 ghost use Rattle.lua_token.specs.declared.token.Token.{Token as Piece};
 
@@ -11,7 +11,7 @@ use crate::step::{Step, step_at};
 use std::alloc::Global;
 
 // The greatest length of a source.
-const MAX_LENGTH: usize = 16_777_216;
+pub(crate) const MAX_LENGTH: usize = 16_777_216;
 
 // How many newline bytes a text has.
 fn newlines(text: &[u8]) -> usize
@@ -67,9 +67,7 @@ pub fn tokens(alloc: Global, source: &[u8]) -> Result<Vec<Token>, LexFault>
 
 // The answer, token by token.
 fn cut(alloc: Global, source: &[u8]) -> Result<Vec<Token>, LexFault>
-    ensures found { IfOk result (λ tokens. IsTokensAnswer source.now (Ok tokens.items)) }
-    ensures fault { IfErr result (λ fault.
-        (fault ≡ no_memory) ⊎ IsTokensAnswer source.now (Err fault)) }
+    ensures { IsOutcome source.now result }
 {
     if source.len() > MAX_LENGTH {
         return Err(LexFault {

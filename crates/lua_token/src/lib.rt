@@ -3,9 +3,10 @@
 //!
 //! [`tokens`] cuts a source, and [`string_value`] gives the bytes of a string's token. Contracts
 //! see a source as the list of its bytes and speak of what stands at each place of it; that there
-//! is one answer for each source, and that a token is the longest spelling at its place, are laws:
-//! [`laws::one_list`], [`laws::one_fault`], [`laws::list_or_fault`], [`laws::one_value`] and
-//! [`laws::longest`].
+//! is one answer for each source, and one value for each string, and that a token is the longest
+//! spelling at its place, are laws: [`laws::some_answer`], [`laws::one_list`],
+//! [`laws::one_fault`], [`laws::list_or_fault`], [`laws::some_value`], [`laws::one_value`],
+//! [`laws::longest`] and [`laws::whole_run`].
 #![tactic(auto)]
 
 mod bytes;

@@ -1,8 +1,9 @@
 ghost use Rattle.std.specs.Prelude.{◌≡◌, length};
 ghost use Rattle.lua_token.specs.Place.{begins, Opens};
 
-use crate::bytes::{is_blank, is_letter};
+use crate::bytes::is_letter;
 use crate::long::level;
+use lua_value::is_blank;
 
 // What begins at a place.
 #[derive(Clone, Copy, Debug, PartialEq, Eq)]

@@ -2,7 +2,7 @@
 //!
 //! [`Num`] is the number; its arithmetic is exact or refused by a [`NumFault`]. [`Num::numeral`]
 //! and [`Num::read`] read one from bytes and [`Num::text`] shows it; [`laws`] has the laws of the
-//! definitions. No call of this crate takes memory.
+//! definitions. [`is_blank`] says which bytes are blanks. No call of this crate takes memory.
 #![tactic(auto)]
 
 mod arithmetic;
@@ -20,4 +20,5 @@ mod tests;
 
 pub use arithmetic::NumFault;
 pub use num::Num;
+pub use number_text::is_blank;
 pub use numeral::NumeralFault;

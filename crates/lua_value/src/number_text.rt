@@ -93,8 +93,9 @@ fn split_word(text: &[u8]) -> (&[u8], &[u8])
     text.split_at(count)
 }
 
-// Space, tab, newline, vertical tab, form feed or return.
-fn is_blank(byte: u8) -> bool
+/// Whether the byte is a blank, as the C library has them: space, tab, newline, vertical tab, form
+/// feed or return.
+pub fn is_blank(byte: u8) -> bool
     ensures { result ≡ is_blank byte }
 {
     matches!(byte, b' ' | b'\t'..=b'\r')
