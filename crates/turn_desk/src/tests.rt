@@ -139,7 +139,7 @@ fn turn<R: Wait>(rt: &R, desk: &Desk<Ledger>, pass: &mut Pass<Ledger>, object: u
 
 // Takes the three objects in order, adds a stamp to each, and gives them back in an order of its
 // own.
-#[tactic(auto, using(crate::proofs::Ready::takes_else, crate::proofs::Ready::takes_fixed, crate::proofs::Ready::takes_number, crate::proofs::Ready::released_else, crate::proofs::Ready::released_free, crate::proofs::Ready::released_all))]
+#[tactic(auto, using(crate::proofs::Callers::takes_else, crate::proofs::Callers::takes_fixed, crate::proofs::Callers::takes_number, crate::proofs::Callers::released_else, crate::proofs::Callers::released_free, crate::proofs::Callers::released_all))]
 fn three<R: Wait>(rt: &R, desk: &Desk<Ledger>, pass: &mut Pass<Ledger>, stamp: Stamp)
     requires ready { IsReady desk.now pass.old }
     requires objects { object_count desk.now ≡ 3 }
@@ -235,7 +235,7 @@ fn meets(
 }
 
 // A desk of three empty ledgers.
-#[tactic(auto, using(crate::proofs::Ready::opening_ready, crate::proofs::Ready::opening_numbered, crate::proofs::Ready::opening_count))]
+#[tactic(auto, using(crate::proofs::Callers::opening_ready, crate::proofs::Callers::opening_numbered, crate::proofs::Callers::opening_count))]
 fn opened(alloc: Global, seats: u32) -> Result<(Desk<Ledger>, Vec<Pass<Ledger>>), Memory>
     requires seats { (0 < seats) × (seats ≤ 17) }
     ensures objects { IfOk result (λ made. object_count made.0 ≡ 3) }
@@ -363,7 +363,7 @@ fn four_threads_nest_three_objects(rt: HostRuntime) -> Result<(), Fail> {
     Ok(())
 }
 
-#[tactic(auto, using(crate::proofs::Ready::ready_last, crate::proofs::Ready::ready_front))]
+#[tactic(auto, using(crate::proofs::Callers::ready_last, crate::proofs::Callers::ready_front))]
 fn two_meet(alloc: Global) -> Result<Option<Meeting>, Memory> {
     let (desk, mut passes) = opened(alloc, 2)?;
     let Some(mut second) = passes.pop() else {

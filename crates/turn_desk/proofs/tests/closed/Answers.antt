@@ -1,5 +1,5 @@
 use Rattle.std.proofs.Common.{◌∙◌, sym}
-use Rattle.turn_desk.proofs.Ready.{all_numbers}
+use Rattle.turn_desk.proofs.Callers.{all_numbers}
 use Rattle.turn_desk.proofs.tests.closed.Goals as goal
 
 pub close-requires-clause-all : goal.close-requires-clause-all

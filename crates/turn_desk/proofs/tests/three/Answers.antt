@@ -1,5 +1,5 @@
 use Rattle.std.proofs.Common.{sym, ap, ◌∙◌}
-use Rattle.turn_desk.proofs.Ready.{takes_else, released_all}
+use Rattle.turn_desk.proofs.Callers.{takes_else, released_all}
 use Rattle.turn_desk.proofs.tests.three.Goals as goal
 
 pub returns-clause-ready : goal.returns-clause-ready
