@@ -1,34 +1,33 @@
 -- For callers, who cite no other module of proofs of this crate: what calls leave of what a pass knew, what is known after its turns, and of the passes of a desk that was just made.
-use Rattle.std.proofs.Common.{◌≡◌, ◌≢◌, ℕ, ◌+◌, ◌<◌, ◌≤◌, ◌==◌, cond, zero, suc, List, [], ◌∷◌, ◌++◌, map, length, get_or, set, sym, refl, ap, ◌∙◌, subst, arith, Bool, All, Contains, length-set, append-nil, append_assoc, eq-eqb, ne_eqb, take, ◌-◌}
+use Rattle.std.proofs.Common.{◌≡◌, ◌≢◌, ℕ, ◌+◌, ◌<◌, ◌≤◌, ◌==◌, cond, zero, suc, List, [], ◌∷◌, ◌++◌, map, length, get_or, set, sym, refl, ap, ◌∙◌, subst, arith, Bool, All, Contains, length-set, append-nil, append_assoc, eq-eqb, ne_eqb, ◌-◌}
 use Rattle.std.specs.List.{range_with_len}
 use Rattle.std.proofs.lemmas.List.{get_or_past, length-map, length-replicate}
 use Rattle.std.proofs.lemmas.List.FromFn.{length-range_with_len}
 use mathlib.Core.Logic.{dite}
-use mathlib.Core.Option.{some, some-injective, some-ne-none}
+use mathlib.Core.Option.{some-injective, some-ne-none}
 use lib.ListN.{get_elem?}
 use Rattle.atomic_table.proofs.Lists.{at_longer}
 use native.Mathlib.Decide.{dec_le, ℕ_discrete}
 use Rattle.turn_desk.specs.declared.view.Look.{Look}
 use Rattle.turn_desk.specs.declared.view.Own.{Own}
-use Rattle.turn_desk.specs.declared.view.Phase.TheVariants.{Free}
-use Rattle.turn_desk.specs.declared.view.Refusal.{Refusal}
+use Rattle.turn_desk.specs.declared.view.Phase.TheVariants.{Free, Taken}
 use Rattle.turn_desk.specs.declared.view.Spot.{Spot}
 use Rattle.turn_desk.specs.declared.view.View.{View}
-use Rattle.turn_desk.specs.View.{blank, spot, places, fronts_of, taken, refused, published, freed, looked, opening}
+use Rattle.turn_desk.specs.View.{blank, spot, places, fronts_of, refused, published, freed, looked, opening}
 use Rattle.love_base.specs.Prefix.{IsPrefix}
-use Rattle.love_base.proofs.Prefixes.{whole, further, longer, first_same}
-use Rattle.turn_desk.specs.Notes.{IsShown}
+use Rattle.love_base.proofs.Prefixes.{whole, further}
 use Rattle.turn_desk.specs.Steps.{Continues, HasTaken, TakesAfterRefusals}
 use Rattle.turn_desk.specs.Grew.{Grew, nothing, made_at, made_both}
 use Rattle.turn_desk.specs.Passes.{DeskId, Standing, IsPassOf, object_count}
 use Rattle.turn_desk.specs.Opening.{opening_pass, opening_passes}
 use Rattle.turn_desk.specs.Closing.{HoldsNothing, IsReady, AreNumbered, numbers_of}
 use Rattle.turn_desk.proofs.Gives.{published_spot, freed_spot}
-use Rattle.turn_desk.proofs.Lists.{all_front, all_last}
+pub use Rattle.turn_desk.proofs.Lists.{all_front, all_last}
 use Rattle.turn_desk.proofs.Looks.{raised_spot}
 use Rattle.turn_desk.proofs.Settled.{some_at, or_at, map_or}
 use Rattle.turn_desk.proofs.Takes.{taken_spot}
-use Rattle.turn_desk.proofs.Views.{at_spot, off_spot, blank_spot, taken_is_busy}
+pub use Rattle.turn_desk.proofs.Views.{taken_is_busy, published_is_busy}
+use Rattle.turn_desk.proofs.Views.{at_spot, off_spot, blank_spot}
 
 module _ {E : Type 0} where
   -- a take changes what is known of its own object alone
@@ -55,24 +54,51 @@ module _ {E : Type 0} where
   turned_idle v w u o log log' idle t e p = dite (ℕ_discrete p o) (λ q. subst (λ (k : ℕ). (spot u k).phase ≡ Free) (sym q) (released_free w u o log' e))
       (λ ne. ap (λ (x : Spot E). x.phase) (released_else w u o p log' e ne ∙ takes_else v w o p log t ne) ∙ idle p)
 
-  -- a look changes neither what the pass has nor what it knows whole, nor its own places
-  pub looked_alike : (v w : View E) (o place summary p : ℕ) → o < length v.spots → w ≡ looked o place summary v → ((spot w p).phase ≡ (spot v p).phase) × ((spot w p).known ≡ (spot v p).known) × ((spot w p).own ≡ (spot v p).own)
-  looked_alike v w o place summary p lt e = let x : Spot E = raised_spot o place v in let u : View E = looked o place summary v in dite (ℕ_discrete p o)
-      (λ q. let here : spot w p ≡ x = ap (λ (z : View E). spot z p) e ∙ (ap (spot u) q ∙ at_spot v o x lt) in
-      (ap (λ (z : Spot E). z.phase) here ∙ ap (λ (k : ℕ). (spot v k).phase) (sym q), ap (λ (z : Spot E). z.known) here ∙ ap (λ (k : ℕ). (spot v k).known) (sym q), ap (λ (z : Spot E). z.own) here ∙ ap (λ (k : ℕ). (spot v k).own) (sym q)))
-      (λ ne. let there : spot w p ≡ spot v p = ap (λ (z : View E). spot z p) e ∙ off_spot v o p x ne in (ap (λ (z : Spot E). z.phase) there, ap (λ (z : Spot E). z.known) there, ap (λ (z : Spot E). z.own) there))
+  -- a look raises what was seen of its object, and changes nothing else there
+  pub record IsRaised (x y : Spot E) : Type 0 where
+    pub phase : y.phase ≡ x.phase
+    pub known : y.known ≡ x.known
+    pub front : x.front ≤ y.front
+    pub own : y.own ≡ x.own
+    pub told : y.told ≡ x.told
+
+  unraised : (x y : Spot E) → y ≡ x → IsRaised x y
+  unraised x y e = record {
+    phase = ap (λ (z : Spot E). z.phase) e;
+    known = ap (λ (z : Spot E). z.known) e;
+    front = let f = ap (λ (z : Spot E). z.front) e in omega arith;
+    own = ap (λ (z : Spot E). z.own) e;
+    told = ap (λ (z : Spot E). z.told) e;
+  }
+
+  raised_here : (x y : Spot E) (place : ℕ) → x.front ≤ place → y ≡ record { phase = x.phase; known = x.known; front = place; own = x.own; told = x.told } → IsRaised x y
+  raised_here x y place ahead e = record {
+    phase = ap (λ (z : Spot E). z.phase) e;
+    known = ap (λ (z : Spot E). z.known) e;
+    front = let f = ap (λ (z : Spot E). z.front) e in omega arith;
+    own = ap (λ (z : Spot E). z.own) e;
+    told = ap (λ (z : Spot E). z.told) e;
+  }
+
+  -- a look at the object o changes neither what the pass has nor what it knows whole, nor its own places
+  pub looked_alike : (v w : View E) (o place summary p : ℕ) → (spot v o).front ≤ place → w ≡ looked o place summary v → IsRaised (spot v p) (spot w p)
+  looked_alike v w o place summary p ahead e = let x : Spot E = raised_spot o place v in let u : View E = looked o place summary v in let is : spot w p ≡ spot u p = ap (λ (z : View E). spot z p) e in dite (ℕ_discrete p o)
+      (λ q. subst (λ (k : ℕ). IsRaised (spot v k) (spot w k)) (sym q) (let here : spot w o ≡ spot u o = ap (λ (z : View E). spot z o) e in dite (dec_le (o + 1) (length v.spots))
+      (λ lt. raised_here (spot v o) (spot w o) place ahead (here ∙ at_spot v o x (omega arith)))
+      (λ nlt. let long = length-set v.spots o x in unraised (spot v o) (spot w o) (here ∙ (get_or_past u.spots o blank (omega arith) ∙ sym (get_or_past v.spots o blank (omega arith)))))))
+      (λ ne. unraised (spot v p) (spot w p) (is ∙ off_spot v o p x ne))
 
   -- a pass that had no object has none after a look
-  pub looked_idle : (v w : View E) (o place summary : ℕ) → o < length v.spots → w ≡ looked o place summary v → HoldsNothing v → HoldsNothing w
-  looked_idle v w o place summary lt e idle p = (looked_alike v w o place summary p lt e).0 ∙ idle p
+  pub looked_idle : (v w : View E) (o place summary : ℕ) → (spot v o).front ≤ place → w ≡ looked o place summary v → HoldsNothing v → HoldsNothing w
+  looked_idle v w o place summary ahead e idle p = (looked_alike v w o place summary p ahead e).phase ∙ idle p
 
   -- and none after a refusal
   pub refused_idle : (v w : View E) (o found : ℕ) → w ≡ refused o found v → HoldsNothing v → HoldsNothing w
   refused_idle v w o found e idle p = ap (λ (z : View E). (spot z p).phase) e ∙ idle p
 
   -- an object that a pass has taken is one of the desk
-  pub in_range : (w : View E) (o : ℕ) (log : List E) → HasTaken w o log → o < length w.spots
-  in_range w o log h = dite (dec_le (o + 1) (length w.spots)) (λ lt. omega arith) (λ nlt. absurd (taken_is_busy (sym h.phase ∙ ap (λ (x : Spot E). x.phase) (get_or_past w.spots o blank (omega arith)))))
+  pub in_range : (w : View E) (o : ℕ) → (spot w o).phase ≡ Taken → o < length w.spots
+  in_range w o busy = dite (dec_le (o + 1) (length w.spots)) (λ lt. omega arith) (λ nlt. absurd (taken_is_busy (sym busy ∙ ap (λ (x : Spot E). x.phase) (get_or_past w.spots o blank (omega arith)))))
 
 -- what calls leave of what a pass knew
 module _ {E : Type 0} where
@@ -142,7 +168,7 @@ module _ {E : Type 0} where
   -- a take, by `hold` or `try_hold`
   pub takes_grew : (summed : List E → ℕ) (between : List E → Bool) (v w : View E) (o : ℕ) (log : List E) → TakesAfterRefusals v o log w → HasTaken w o log → Continues summed between v o log → Grew nothing v w
   takes_grew summed between v w o log t h c =
-      let v' : View E = record v { refused = v.refused ++ t.0 } in let lt = in_range w o log h in
+      let v' : View E = record v { refused = v.refused ++ t.0 } in let lt = in_range w o h.phase in
       let same : length w.spots ≡ length v.spots = ap (λ (z : View E). length z.spots) t.2 ∙ length-set v.spots o (taken_spot o log v') in
       let was : spot w o ≡ taken_spot o log v' = ap (λ (z : View E). spot z o) t.2 ∙ at_spot v' o (taken_spot o log v') (omega arith) in
       let else : (p : ℕ) → p ≢ o → spot w p ≡ spot v p = λ p ne. takes_else v w o p log t ne in record {
@@ -176,31 +202,29 @@ module _ {E : Type 0} where
   }
 
   -- a look
-  pub looked_grew : (v w : View E) (o place summary : ℕ) → o < length v.spots → (spot v o).front ≤ place → w ≡ looked o place summary v → Grew nothing v w
-  looked_grew v w o place summary lt ahead e =
-      let x : Spot E = raised_spot o place v in let was : spot w o ≡ x = ap (λ (z : View E). spot z o) e ∙ at_spot v o x lt in
-      let else : (p : ℕ) → p ≢ o → spot w p ≡ spot v p = λ p ne. ap (λ (z : View E). spot z p) e ∙ off_spot v o p x ne in record {
-        number = ap (λ (z : View E). z.number) e;
-        seats = ap (λ (z : View E). z.seats) e;
-        fixed = ap (λ (z : View E). z.fixed) e;
-        wide = ap (λ (z : View E). length z.spots) e ∙ length-set v.spots o x;
-        known = at_each v w o (λ p y z. IsPrefix y.known z.known) (λ p ne y. whole y.known) (subst (λ (z : Spot E). IsPrefix (spot v o).known z.known) (sym was) (whole (spot v o).known)) else;
-        front = at_each v w o (λ p y z. y.front ≤ z.front) (λ p ne y. no_lower y) (subst (λ (z : Spot E). (spot v o).front ≤ z.front) (sym was) ahead) else;
-        own = at_each v w o (λ p y z. z.own ≡ y.own ++ []) (λ p ne y. sym (append-nil y.own)) (ap (λ (z : Spot E). z.own) was ∙ sym (append-nil (spot v o).own)) else;
-        told = at_each v w o (λ p y z. z.told ≡ y.told) (λ p ne y. refl) (ap (λ (z : Spot E). z.told) was) else;
-        refused = ([], ap (λ (z : View E). z.refused) e ∙ sym (append-nil v.refused));
-        looks = (_, ap (λ (z : View E). z.looks) e);
-        actions = (_, ap (λ (z : View E). z.actions) e);
-      }
+  pub looked_grew : (v w : View E) (o place summary : ℕ) → (spot v o).front ≤ place → w ≡ looked o place summary v → Grew nothing v w
+  looked_grew v w o place summary ahead e = let at = λ (p : ℕ). looked_alike v w o place summary p ahead e in record {
+    number = ap (λ (z : View E). z.number) e;
+    seats = ap (λ (z : View E). z.seats) e;
+    fixed = ap (λ (z : View E). z.fixed) e;
+    wide = ap (λ (z : View E). length z.spots) e ∙ length-set v.spots o (raised_spot o place v);
+    known = λ p. subst (IsPrefix (spot v p).known) (sym (at p).known) (whole (spot v p).known);
+    front = λ p. (at p).front;
+    own = λ p. (at p).own ∙ sym (append-nil (spot v p).own);
+    told = λ p. (at p).told;
+    refused = ([], ap (λ (z : View E). z.refused) e ∙ sym (append-nil v.refused));
+    looks = (_, ap (λ (z : View E). z.looks) e);
+    actions = (_, ap (λ (z : View E). z.actions) e);
+  }
 
   -- the places that a release fills
   abbrev pub released_places : ℕ → List E → View E → List Own
   released_places o log v = places v.number o (fronts_of v) (length (spot v o).known) (length log - length (spot v o).known)
 
   -- a release
-  pub released_grew : (w u : View E) (o : ℕ) (log : List E) → o < length w.spots → IsPrefix (spot w o).known log → (spot w o).front ≤ length log → u ≡ freed o (published o log w) → Grew (made_at o (released_places o log w)) w u
-  released_grew w u o log lt grown ahead e =
-      let x : Spot E = published_spot o log w in let m : View E = published o log w in let y : Spot E = freed_spot o m in
+  pub released_grew : (w u : View E) (o : ℕ) (log : List E) → (spot w o).phase ≡ Taken → IsPrefix (spot w o).known log → (spot w o).front ≤ length log → u ≡ freed o (published o log w) → Grew (made_at o (released_places o log w)) w u
+  released_grew w u o log busy grown ahead e =
+      let lt = in_range w o busy in let x : Spot E = published_spot o log w in let m : View E = published o log w in let y : Spot E = freed_spot o m in
       let mid : spot m o ≡ x = at_spot w o x lt in
       let end : spot u o ≡ y = ap (λ (z : View E). spot z o) e ∙ at_spot m o y (omega (arith, length-set w.spots o x)) in
       let else : (p : ℕ) → p ≢ o → spot u p ≡ spot w p = λ p ne. released_else w u o p log e ne in record {
@@ -217,6 +241,32 @@ module _ {E : Type 0} where
         refused = ([], ap (λ (z : View E). z.refused) e ∙ sym (append-nil w.refused));
         looks = ([], ap (λ (z : View E). z.looks) e ∙ sym (append-nil w.looks));
         actions = (_, ap (λ (z : View E). z.actions) e);
+      }
+
+  -- the object o after a take
+  pub takes_here : (v w : View E) (o : ℕ) (log : List E) → TakesAfterRefusals v o log w → HasTaken w o log → ((spot w o).own ≡ (spot v o).own) × ((spot w o).told ≡ (spot v o).told)
+  takes_here v w o log t h =
+      let v' : View E = record v { refused = v.refused ++ t.0 } in let lt = in_range w o h.phase in
+      let same : length w.spots ≡ length v.spots = ap (λ (z : View E). length z.spots) t.2 ∙ length-set v.spots o (taken_spot o log v') in
+      let was : spot w o ≡ taken_spot o log v' = ap (λ (z : View E). spot z o) t.2 ∙ at_spot v' o (taken_spot o log v') (omega arith) in (ap (λ (z : Spot E). z.own) was, ap (λ (z : Spot E). z.told) was)
+
+  -- what is known of the object o after a release
+  pub record IsReleased (w u : View E) (o : ℕ) (log : List E) : Type 0 where
+    pub phase : (spot u o).phase ≡ Free
+    pub known : (spot u o).known ≡ log
+    pub front : (spot u o).front ≡ length log
+    pub own : (spot u o).own ≡ (spot w o).own ++ released_places o log w
+    pub told : (spot u o).told ≡ (spot w o).told
+
+  pub released_here : (w u : View E) (o : ℕ) (log : List E) → (spot w o).phase ≡ Taken → u ≡ freed o (published o log w) → IsReleased w u o log
+  released_here w u o log busy e =
+      let lt = in_range w o busy in let x : Spot E = published_spot o log w in let m : View E = published o log w in let y : Spot E = freed_spot o m in let mid : spot m o ≡ x = at_spot w o x lt in
+      let end : spot u o ≡ y = ap (λ (z : View E). spot z o) e ∙ at_spot m o y (omega (arith, length-set w.spots o x)) in record {
+        phase = ap (λ (z : Spot E). z.phase) end;
+        known = ap (λ (z : Spot E). z.known) end ∙ ap (λ (z : Spot E). z.known) mid;
+        front = ap (λ (z : Spot E). z.front) end ∙ ap (λ (z : Spot E). z.front) mid;
+        own = ap (λ (z : Spot E). z.own) end ∙ ap (λ (z : Spot E). z.own) mid;
+        told = ap (λ (z : Spot E). z.told) end ∙ ap (λ (z : Spot E). z.told) mid;
       }
 
   -- a history that goes on from what a pass knows goes on from what it knew before

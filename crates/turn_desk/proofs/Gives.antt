@@ -15,8 +15,8 @@ use Rattle.turn_desk.specs.declared.view.Spot.{Spot}
 use Rattle.turn_desk.specs.declared.view.View.{View}
 use Rattle.love_base.specs.Prefix.{IsPrefix}
 use Rattle.love_base.proofs.Prefixes.{whole, longer}
-use Rattle.turn_desk.specs.View.{places, changes, spot, own_count, number_count, fronts_of, acted, shown, published, freed}
-use Rattle.turn_desk.specs.Rule.{World, Later, Knows, ObjectOk, Desked, AreCarried, IsFresh, IsEntry, tally_of}
+use Rattle.turn_desk.specs.View.{places, changes, spot, own_count, number_count, fronts_of, acted, published, freed}
+use Rattle.turn_desk.specs.Rule.{World, Later, Knows, ObjectOk, Desked, AreCarried, IsFresh, tally_of}
 use Rattle.turn_desk.specs.Steps.{at_turn, at_tally, put_out, gave}
 use Rattle.turn_desk.proofs.Lists.{set_there, sum_set, at_either}
 use Rattle.turn_desk.proofs.Notes.{place_in, change_in, changes_signed}

@@ -16,10 +16,8 @@ use Rattle.turn_desk.specs.declared.view.Phase.TheVariants.{Free, Taken}
 use Rattle.turn_desk.specs.declared.view.Spot.{Spot}
 use Rattle.turn_desk.specs.declared.view.View.{View}
 use Rattle.turn_desk.specs.declared.view.Action.{Action}
-use Rattle.turn_desk.specs.declared.view.Own.{Own}
-use Rattle.turn_desk.specs.declared.view.Refusal.{Refusal}
 use Rattle.turn_desk.specs.Notes.{IsSigned}
-use Rattle.turn_desk.specs.View.{blank, spot, with_spot, number_count, fronts_of, acted, meeting, changes, places, raised, received, taken, refused, published, shown, freed, looked}
+use Rattle.turn_desk.specs.View.{blank, spot, with_spot, number_count, fronts_of, acted, meeting, changes, places, raised, taken, refused, published, freed, looked}
 use Rattle.turn_desk.specs.Opening.{IsNew}
 use Rattle.turn_desk.specs.Passes.{DeskId, Standing, Keeps, IsPassOf, object_count, is_free, free_count, empty_slot}
 use Rattle.turn_desk.specs.Steps.{HasTaken, IsOther}

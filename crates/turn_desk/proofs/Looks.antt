@@ -1,15 +1,13 @@
 -- A look keeps the desk rule.
-use Rattle.std.proofs.Common.{◌≡◌, ◌≢◌, ℕ, ◌+◌, ◌*◌, ◌/◌, ◌%◌, ◌^◌, ◌<◌, ◌≤◌, Bool, true, List, [], ◌∷◌, length, take, get_or, set, sym, refl, ap, ◌∙◌, subst, arith, Option}
+use Rattle.std.proofs.Common.{◌≡◌, ◌≢◌, ℕ, ◌+◌, ◌*◌, ◌/◌, ◌%◌, ◌<◌, ◌≤◌, Bool, true, List, [], ◌∷◌, length, take, get_or, set, sym, refl, ap, ◌∙◌, subst, arith, Option}
 use Rattle.std.proofs.lemmas.List.{set-get_or}
 use Rattle.std.proofs.Math.Seq.{take-length}
-use mathlib.Core.Option.{some, none}
-use lib.ListN.{get_elem?}
+use mathlib.Core.Option.{none}
 use Rattle.atomic_table.specs.Table.{State, Me, step, keeps, Allows}
-use Rattle.turn_desk.specs.declared.view.Look.{Look}
 use Rattle.turn_desk.specs.declared.view.Spot.{Spot}
 use Rattle.turn_desk.specs.declared.view.View.{View}
 use Rattle.turn_desk.specs.View.{spot, number_count, acted, meeting, raised, looked}
-use Rattle.turn_desk.specs.Rule.{World, Knows, Desked, AreCarried, tally_of}
+use Rattle.turn_desk.specs.Rule.{World, Knows, Desked, AreCarried}
 use Rattle.turn_desk.specs.Steps.{at_tally, saw}
 use Rattle.turn_desk.proofs.Rule.{restated, elsewhere, knows_spot, knows_meeting, knows_look, own_stays, told_stays}
 use Rattle.turn_desk.proofs.Takes.{known_goes_on}

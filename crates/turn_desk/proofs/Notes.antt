@@ -1,5 +1,5 @@
 -- Notes of a pass stay signed and within its fronts at each change of what it knows.
-use Rattle.std.proofs.Common.{◌≡◌, ◌≢◌, ℕ, ◌+◌, ◌<◌, ◌≤◌, ◌==◌, cond, true, zero, suc, List, [], ◌∷◌, ◌++◌, length, get_or, set, max, replicate, sym, refl, ap, ◌∙◌, subst, ⊎_elim, arith, count_by}
+use Rattle.std.proofs.Common.{◌≡◌, ◌≢◌, ℕ, ◌+◌, ◌<◌, ◌≤◌, ◌==◌, cond, true, zero, suc, List, [], ◌∷◌, length, get_or, set, sym, refl, ap, subst, ⊎_elim, arith}
 use Rattle.std.proofs.lemmas.List.{get_or_past}
 use Rattle.std.proofs.lemmas.List.Sums.{sum_by-append}
 use Rattle.std.proofs.Math.Nat.{le-max_left, le-max_right}

@@ -10,14 +10,13 @@ use Rattle.atomic_table.proofs.Lists.{at_set, set_else}
 use Rattle.turn_desk.specs.declared.view.Action.{Action}
 use Rattle.turn_desk.specs.declared.view.Look.{Look}
 use Rattle.turn_desk.specs.declared.view.Own.{Own}
-use Rattle.turn_desk.specs.declared.view.Phase.TheVariants.{Free}
 use Rattle.turn_desk.specs.declared.view.Spot.{Spot}
 use Rattle.turn_desk.specs.declared.view.Told.{Told}
 use Rattle.turn_desk.specs.declared.view.View.{View}
 use Rattle.love_base.specs.Prefix.{IsPrefix}
 use Rattle.love_base.proofs.Prefixes.{further, longer, first_same}
-use Rattle.turn_desk.specs.Notes.{IsPast, IsShown, IsSigned, step_of}
-use Rattle.turn_desk.specs.View.{spot, with_spot, with_look, acted, meeting, fronts_of, own_count, number_count}
+use Rattle.turn_desk.specs.Notes.{IsPast, IsShown}
+use Rattle.turn_desk.specs.View.{spot, with_spot, with_look, acted, meeting, own_count, number_count}
 use Rattle.turn_desk.specs.Rule.{World, Later, Knows, Named, ObjectOk, Desked, AreCarried, IsFresh, IsEntry}
 use Rattle.turn_desk.proofs.Lists.{set_there, sum_set, sum_at, sum_two, at_either, at_end, at_only}
 use Rattle.turn_desk.proofs.Notes.{signed_spot, signed_acted, signed_look, meeting_signed}

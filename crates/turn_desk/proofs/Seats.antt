@@ -9,8 +9,6 @@ use native.Mathlib.Decide.{dec_le, ℕ_discrete}
 use lib.ListN.{get_elem?}
 use Rattle.atomic_table.specs.Table.{State, Splits, Joins}
 use Rattle.atomic_table.proofs.Lists.{at_set, set_else, at_longer}
-use Rattle.turn_desk.specs.declared.view.Action.{Action}
-use Rattle.turn_desk.specs.declared.view.Look.{Look}
 use Rattle.turn_desk.specs.declared.view.Own.{Own}
 use Rattle.turn_desk.specs.declared.view.Phase.TheVariants.{Free}
 use Rattle.turn_desk.specs.declared.view.Spot.{Spot}
@@ -18,8 +16,7 @@ use Rattle.turn_desk.specs.declared.view.Told.{Told}
 use Rattle.turn_desk.specs.declared.view.View.{View}
 use Rattle.love_base.specs.Prefix.{IsPrefix}
 use Rattle.turn_desk.specs.View.{blank, spot, own_count, number_count, makes_one, newcomer, joined, all_joined, both, spent}
-use Rattle.turn_desk.specs.Notes.{IsShown}
-use Rattle.turn_desk.specs.Rule.{World, Knows, Named, ObjectOk, Desked, IsEntry, IsFresh}
+use Rattle.turn_desk.specs.Rule.{World, Knows, Named, ObjectOk, Desked}
 use Rattle.turn_desk.proofs.Lists.{set_there, at_either, at_end, sum_set}
 use Rattle.turn_desk.proofs.Notes.{both_numbers, signed_both, signed_nothing}
 use Rattle.turn_desk.proofs.Views.{blank_spot, joined_spot, length_joined}

@@ -9,9 +9,8 @@ use Rattle.atomic_table.specs.Table.{State, Me, step, keeps, Allows}
 use Rattle.atomic_table.proofs.Lists.{at_set}
 use Rattle.turn_desk.specs.declared.view.Phase.TheVariants.{Free}
 use Rattle.turn_desk.specs.declared.view.View.{View}
-use Rattle.turn_desk.specs.Notes.{IsSigned}
 use Rattle.turn_desk.specs.View.{spot, own_count, seated, brought}
-use Rattle.turn_desk.specs.Rule.{World, Knows, ObjectOk, Desked, AreCarried}
+use Rattle.turn_desk.specs.Rule.{World, Knows, ObjectOk, Desked}
 use Rattle.turn_desk.specs.Steps.{seats_brought, number_brought}
 use Rattle.turn_desk.proofs.Lists.{set_there}
 use Rattle.turn_desk.proofs.Rule.{restated, same_sum}

@@ -10,8 +10,6 @@ use Rattle.atomic_table.specs.Table.{Final, Seen, Me}
 use Rattle.turn_desk.specs.declared.view.Spot.{Spot}
 use Rattle.turn_desk.specs.declared.view.View.{View}
 use Rattle.love_base.specs.Prefix.{IsPrefix}
-use Rattle.turn_desk.specs.declared.view.Action.{Action}
-use Rattle.turn_desk.specs.declared.view.Look.{Look}
 use Rattle.turn_desk.specs.declared.view.Own.{Own}
 use Rattle.turn_desk.specs.Notes.{IsPast, IsShown}
 use Rattle.turn_desk.specs.View.{blank, spot, fronts_of, own_count, number_count}

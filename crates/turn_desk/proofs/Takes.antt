@@ -16,7 +16,7 @@ use Rattle.love_base.specs.Prefix.{IsPrefix}
 use Rattle.love_base.proofs.Prefixes.{whole}
 use Rattle.turn_desk.specs.Notes.{IsShown}
 use Rattle.turn_desk.specs.View.{spot, own_count, number_count, acted, meeting, received, taken, refused}
-use Rattle.turn_desk.specs.Rule.{World, Knows, ObjectOk, Desked, AreCarried}
+use Rattle.turn_desk.specs.Rule.{World, Knows, ObjectOk, Desked}
 use Rattle.turn_desk.specs.Steps.{Continues, at_turn, took, took_vacant}
 use Rattle.turn_desk.proofs.Lists.{set_there}
 use Rattle.turn_desk.proofs.Notes.{signed_refused}

@@ -1,12 +1,15 @@
 -- What is known of one object after a change of what is known.
-use Rattle.std.proofs.Common.{Bool, ◌≡◌, ◌≢◌, ℕ, ◌<◌, zero, suc, List, [], ◌∷◌, ◌++◌, length, get_or, append-nil, sym, refl, ap, ◌∙◌, arith, get_or-set_other, get_or-set_same, replicate, subst, append_assoc}
+use Rattle.std.proofs.Common.{Bool, ◌≡◌, ◌≢◌, ℕ, ◌<◌, ◌≤◌, zero, suc, List, [], ◌∷◌, ◌++◌, length, get_or, append-nil, sym, refl, ap, ◌∙◌, arith, get_or-set_other, get_or-set_same, replicate, subst, append_assoc}
 use Rattle.std.proofs.lemmas.List.Elements.{All-append, All-push}
+use lib.ListN.{get_elem?}
+use Rattle.atomic_table.proofs.Lists.{at_longer}
 use Rattle.turn_desk.specs.declared.view.Refusal.{Refusal}
 use Rattle.turn_desk.specs.declared.view.Phase.TheVariants.{Free, Taken, Published}
 use Rattle.turn_desk.specs.declared.view.Spot.{Spot}
 use Rattle.turn_desk.specs.declared.view.View.{View}
 use Rattle.turn_desk.specs.View.{blank, spot, with_spot, fronts_of, taken, refused, joined, all_joined}
 use Rattle.turn_desk.specs.Steps.{Continues, IsOther, Noted, TakesAfterRefusals, AreRefusals}
+use Rattle.turn_desk.specs.Passes.{DeskId, Standing, IsPassOf}
 use Rattle.turn_desk.proofs.Lists.{map_default}
 
 pub taken_is_busy : Taken ≢ Free
@@ -63,6 +66,19 @@ module _ {E : Type 0} where
   -- what goes on from what was known after refusals goes on from what was known before them
   pub continues_noted : (summed : List E → ℕ) (between : List E → Bool) (v w : View E) (o : ℕ) (log : List E) → Noted v o w → Continues summed between w o log → Continues summed between v o log
   continues_noted summed between v w o log k c = let d = subst (λ (z : View E). Continues summed between z o log) k.2 c in record { known = d.known; front = d.front; told = d.told; looks = d.looks }
+
+  -- a pass was one of the desk before it was refused
+  pub member_noted : (desk : DeskId) (p q : Standing E) (o : ℕ) → q.desk ≡ p.desk → Noted p.view o q.view → IsPassOf desk q → IsPassOf desk p
+  member_noted desk p q o same k m = record {
+    own = sym same ∙ m.own;
+    real = subst (λ (z : View E). 0 < z.number) k.2 m.real;
+    within = subst (λ (z : View E). z.number ≤ desk.seats) k.2 m.within;
+    few = m.few;
+    seats = ap (λ (z : View E). z.seats) (sym k.2) ∙ m.seats;
+    wide = ap (λ (z : View E). length z.spots) (sym k.2) ∙ m.wide;
+    kinds = ap (λ (z : View E). length z.fixed) (sym k.2) ∙ m.kinds;
+    refused = λ i r e. let a = m.refused i r (ap (λ (z : View E). get_elem? z.refused i) k.2 ∙ at_longer p.view.refused k.0 i r e) in let number = ap (λ (z : View E). z.number) k.2 in (a.0 ∙ number, a.1, a.2, λ q. a.3 (q ∙ sym number));
+  }
 
   -- no refusal
   pub noted_none : (v : View E) (o : ℕ) → Noted v o v

@@ -10,7 +10,6 @@ use Rattle.turn_desk.specs.declared.view.Told.{Told}
 use Rattle.turn_desk.specs.declared.view.View.{View}
 use Rattle.love_base.specs.Prefix.{IsPrefix}
 use Rattle.turn_desk.specs.Notes.{IsShown}
-use Rattle.turn_desk.specs.Rule.{tally_of}
 use Rattle.turn_desk.specs.View.{spot, received, taken, refused, published, freed, looked, seated, brought}
 
 -- a history goes on from all that a pass has seen of the object o, or was told of it: its known list and its looks

@@ -6,7 +6,7 @@ ghost use Rattle.turn_desk.specs.Steps.{Continues, HasTaken, IsOther, TakesAfter
 ghost use Rattle.turn_desk.specs.Passes.{IsPassOf, fixed_at, object_count};
 
 use crate::held::{Busy, Held};
-use crate::kept::{place_of, turn_by};
+use crate::kept::{forget, place_of, turn_by};
 use crate::logged::Logged;
 use crate::pass::Pass;
 use crate::plays::{DeskTable, Give, Publish, Said, Take, TurnSeat};
@@ -83,6 +83,7 @@ impl<O: Logged> Desk<O> {
         requires object { object < object_count self.now }
         requires free { (spot pass.old.view object).phase ≡ Free }
         ensures own { pass.new.desk ≡ pass.old.desk }
+        ensures was_member { IsPassOf self.now pass.old }
         ensures member { IsPassOf self.now pass.new }
         ensures object { IfOk result (λ h. h.object ≡ object) }
         ensures taken { IfOk result (λ h. TakesAfterRefusals
@@ -122,6 +123,7 @@ impl<O: Logged> Desk<O> {
         requires object { object < object_count self.now }
         requires free { (spot pass.old.view object).phase ≡ Free }
         ensures own { pass.new.desk ≡ pass.old.desk }
+        ensures was_member { IsPassOf self.now pass.old }
         ensures member { IsPassOf self.now pass.new }
         ensures object { result.object ≡ object }
         ensures taken { TakesAfterRefusals
@@ -189,6 +191,7 @@ impl<O: Logged> Desk<O> {
         requires fixed { O.fixed_number held.value ≡ fixed_at pass.old.view held.object }
         requires between { O.between (O.history held.value) ≡ true }
         ensures own { pass.new.desk ≡ pass.old.desk }
+        ensures was_member { IsPassOf self.now pass.old }
         ensures member { IsPassOf self.now pass.new }
         ensures released { pass.new.view
             ≡ freed held.object (published held.object (O.history held.value) pass.old.view) }
@@ -204,7 +207,7 @@ impl<O: Logged> Desk<O> {
         turn_by(&mut pass.seat, place);
         drop(shared.exchange(&mut pass.seat, slot, Some(value)));
         shared.swap::<Give>(&mut pass.seat, word, 0);
-        pass.kept.remove(place);
+        forget(&mut pass.kept, place);
         turn_by(&mut pass.seat, pass.kept.len() - place);
         if self.sleepers[slot].load(Ordering::SeqCst) > 0 {
             shared.wake_all(word);

@@ -26,6 +26,7 @@ impl<O: Logged> Desk<O> {
         requires own { pass.old.desk ≡ self.now }
         requires object { object < object_count self.now }
         ensures own { pass.new.desk ≡ pass.old.desk }
+        ensures was_member { IsPassOf self.now pass.old }
         ensures member { IsPassOf self.now pass.new }
         ensures looked { pass.new.view
             ≡ looked object result.place result.summary pass.old.view }

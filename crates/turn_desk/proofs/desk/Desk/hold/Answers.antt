@@ -1,5 +1,5 @@
 use Rattle.std.proofs.Common.{refl, ◌∙◌}
-use Rattle.turn_desk.proofs.Views.{continues_noted, noted_none, noted_more, takes_more}
+use Rattle.turn_desk.proofs.Views.{continues_noted, member_noted, noted_none, noted_more, takes_more}
 use Rattle.turn_desk.proofs.desk.Desk.hold.Goals as goal
 
 pub loop-init : goal.loop-init
@@ -14,3 +14,6 @@ returns-in-Ok-clause-taken g c = takes_more c.args.pass.now.view c.loop.pass.vie
 
 pub returns-in-Ok-clause-seen : goal.returns-in-Ok-clause-seen
 returns-in-Ok-clause-seen g c = let l = g.O.Logged in continues_noted l.summed l.between c.args.pass.now.view c.loop.pass.view c.args.object _ c.loop.invariant.1 c.in-Ok.ensures.seen
+
+pub returns-in-Ok-clause-was_member : goal.returns-in-Ok-clause-was_member
+returns-in-Ok-clause-was_member g c = member_noted _ _ _ _ c.loop.invariant.0 c.loop.invariant.1 c.in-Ok.ensures.was_member

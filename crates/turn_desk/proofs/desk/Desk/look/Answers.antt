@@ -35,3 +35,6 @@ returns-clause-own g c = let saw = c.load-tally.ensures.2 c.args.object (ap (λ 
 
 pub returns-clause-member : goal.returns-clause-member
 returns-clause-member g c = keeps_member _ _ _ _ _ _ _ _ (invariant_of-pass g c) refl (returns-clause-own g c ∙ c.requires.own)
+
+pub returns-clause-was_member : goal.returns-clause-was_member
+returns-clause-was_member g c = keeps_member _ _ _ _ _ _ _ _ c.pass.invariant c.pass.view_is c.requires.own

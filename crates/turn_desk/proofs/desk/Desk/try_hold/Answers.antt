@@ -1,4 +1,4 @@
-use Rattle.std.proofs.Common.{rules, set, [], ◌<◌, ◌≡◌, ◌∷◌, ◌++◌, Some, None, sym, refl, ap, ◌∙◌, arith, length}
+use Rattle.std.proofs.Common.{rules, set, [], ◌<◌, ◌≡◌, ◌∷◌, ◌++◌, Some, None, sym, refl, ap, ◌∙◌, length}
 use Rattle.atomic_table.specs.Table.{turned, rest}
 use Rattle.turn_desk.specs.declared.view.Phase.TheVariants.{Free}
 use Rattle.turn_desk.specs.View.{spot}
@@ -31,3 +31,9 @@ invariant_of-pass g c = let inside = c.pass.inside in let missed = c.take-found.
 pub returns-then-found-ne0-clause-member : goal.returns-then-found-ne0-clause-member
 returns-then-found-ne0-clause-member g c = let missed = c.take-found.ensures.took.1 c.if-found-ne0.true in
     keeps_member _ _ _ _ _ _ _ _ (invariant_of-pass g c) refl (desk_kept _ _ _ _ _ c.take-found.ensures.own.0 (ap (λ m. m.0.seats) missed.0) (ap (λ p. p.desk) c.pass.view_is) ∙ c.requires.own)
+
+pub returns-then-found-ne0-clause-was_member : goal.returns-then-found-ne0-clause-was_member
+returns-then-found-ne0-clause-was_member g c = keeps_member _ _ _ _ _ _ _ _ c.pass.invariant c.pass.view_is c.requires.own
+
+pub returns-clause-was_member : goal.returns-clause-was_member
+returns-clause-was_member g c = keeps_member _ _ _ _ _ _ _ _ c.pass.invariant c.pass.view_is c.requires.own
