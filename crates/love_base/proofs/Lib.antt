@@ -1,3 +1,4 @@
 pub mod Content
 pub mod Distinct
 mod Parts
+pub mod Prefixes

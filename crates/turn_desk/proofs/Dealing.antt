@@ -23,7 +23,7 @@ module _ {E : Type 0} where
   newcomer_view : (n seats : ℕ) (fixed : List ℕ) → 1 < n → newcomer (opening {E = E} 1 n seats 0 fixed) ≡ opening n (cond (n == 1) (seats + 1) 0) seats 0 fixed
   newcomer_view n seats fixed lt = let many : length (replicate (length fixed) (blank {E = E})) ≡ length fixed = length-replicate (length fixed) (blank {E = E}) in
       let none : 0 ≡ cond (n == 1) (seats + 1) 0 = sym (ap (λ (b : Bool). cond b (seats + 1) 0) (ne_eqb n 1 (λ e. omega arith))) in
-      λ i. record { number = n; numbers = n ∷ []; seats = seats; next = none i; awaited = 0; fixed = fixed; handed = []; spots = replicate (many i) blank; refused = [] }
+      λ i. record { number = n; numbers = n ∷ []; seats = seats; next = none i; awaited = 0; fixed = fixed; handed = []; spots = replicate (many i) blank; refused = []; looks = []; actions = [] }
 
   -- one pass more
   pub deal_one : (table : TableId) (others seats : ℕ) (fixed : List ℕ) (id : TableId) (v : View E) (pass : Standing E) (passes passes' : List (Standing E)) → id ≡ table → v ≡ newcomer (opening 1 (others + 2) seats 0 fixed)

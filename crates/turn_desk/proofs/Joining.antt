@@ -9,9 +9,9 @@ use Rattle.turn_desk.specs.declared.view.Phase.{Phase}
 use Rattle.turn_desk.specs.declared.view.Phase.TheVariants.{Free}
 use Rattle.turn_desk.specs.declared.view.Spot.{Spot}
 use Rattle.turn_desk.specs.declared.view.View.{View}
-use Rattle.turn_desk.specs.View.{blank, both}
+use Rattle.turn_desk.specs.View.{blank, both, fronts_of}
 use Rattle.turn_desk.specs.Passes.{Keeps, is_free, free_count, empty_slot}
-use Rattle.turn_desk.specs.Closing.{HoldsNothing, fronts_of, IsBack, Gathers}
+use Rattle.turn_desk.specs.Closing.{HoldsNothing, IsBack, Gathers}
 
 -- all objects are free, where no pass has one
 all_free : {E : Type 0} (spots : List (Spot E)) → ((o : ℕ) → (get_or spots o blank).phase ≡ Free) → count_by (λ (x : Spot E). is_free x.phase) spots ≡ length spots
@@ -47,6 +47,7 @@ module _ {O E : Type 0} where
     ready = k.ready;
     wide = k.wide ∙ same;
     idle = idle;
+    signed = k.signed;
   }
 
   -- the last pass is the one into which the others are joined

@@ -1,8 +1,10 @@
 pub mod Lists
 pub mod Views
+pub mod Notes
 pub mod Rule
 pub mod Takes
 pub mod Gives
+pub mod Looks
 pub mod SetUp
 pub mod Seats
 pub mod Rows
@@ -12,4 +14,4 @@ pub mod Dealing
 pub mod AllBack
 pub mod Joining
 pub mod Settled
-pub mod Ready
+pub mod Callers

@@ -1,22 +1,10 @@
--- Lists that begin with one another, elements found by place, and sums over the views of a table.
-use Rattle.std.proofs.Common.{◌≡◌, ◌≢◌, ◌⊎◌, ℕ, ◌+◌, ◌<◌, ◌≤◌, zero, suc, List, [], ◌∷◌, ◌++◌, length, set, sym, refl, ap, ◌∙◌, inl, inr, ⊎_elim, arith, append-nil, append_assoc, length-append, sum_by, All, subst}
+-- Elements of lists found by place, and sums over the views of a table.
+use Rattle.std.proofs.Common.{◌≡◌, ◌≢◌, ◌⊎◌, ℕ, ◌+◌, ◌<◌, ◌≤◌, zero, suc, List, [], ◌∷◌, ◌++◌, length, set, sym, refl, ap, ◌∙◌, inl, inr, ⊎_elim, arith, length-append, sum_by, All, subst, map, get_or}
 use Rattle.std.proofs.Math.Seq.{get_or-append_seam}
 use Rattle.std.proofs.lemmas.List.{get_or_append_left}
 use Rattle.std.proofs.lemmas.List.Sums.{sum_by-cons}
 use mathlib.Core.Option.{some, some-injective, some-ne-none}
 use lib.ListN.{get_elem?}
-use Rattle.love_base.specs.Prefix.{IsPrefix}
-
-module _ {E : Type 0} where
-  -- a list begins with itself
-  pub whole : (xs : List E) → IsPrefix xs xs
-  whole xs = ([], sym (append-nil xs))
-
-  pub further : (xs ys zs : List E) → IsPrefix xs ys → IsPrefix ys zs → IsPrefix xs zs
-  further xs ys zs a b = (a.0 ++ b.0, b.1 ∙ (ap (λ (l : List E). l ++ b.0) a.1 ∙ append_assoc xs a.0 b.0))
-
-  pub longer : (xs ys : List E) → IsPrefix xs ys → length xs ≤ length ys
-  longer xs ys a = rw a.1 (omega (arith, length-append xs a.0))
 
 module _ {A : Type 0} where
   -- what holds of all of a list holds of its last and of all before it
@@ -77,3 +65,19 @@ module _ {A : Type 0} where
   sum_alone f [] i a e nil = absurd (some-ne-none a (sym e))
   sum_alone f (x ∷ xs) zero a e nil = let same : f x ≡ f a = ap f (some-injective x a e) in let h = sum_none f xs (λ j b g. nil (suc j) b (λ q. omega arith) g) in omega (arith, sum_by-cons f x xs)
   sum_alone f (x ∷ xs) (suc i) a e nil = let h = sum_alone f xs i a e (λ j b ne g. nil (suc j) b (λ q. ne (omega arith)) g) in let z : f x ≡ 0 = nil zero x (λ q. omega arith) refl in omega (arith, sum_by-cons f x xs)
+
+  -- the default of a list of values of a function is the function's value at the default
+  pub map_default : {B : Type 0} (f : A → B) (xs : List A) (k : ℕ) (d : A) → get_or (map f xs) k (f d) ≡ f (get_or xs k d)
+  map_default f [] k d = refl
+  map_default f (x ∷ xs) zero d = refl
+  map_default f (x ∷ xs) (suc k) d = map_default f xs k d
+
+  -- the one element of a list
+  pub at_only : (a b : A) (j : ℕ) → get_elem? (a ∷ []) j ≡ some b → a ≡ b
+  at_only a b zero e = some-injective a b e
+  at_only a b (suc j) e = absurd (some-ne-none b (sym e))
+
+  -- what stands behind a list stands in both together
+  pub at_behind : (l m : List A) (k : ℕ) (a : A) → get_elem? m k ≡ some a → get_elem? (l ++ m) (length l + k) ≡ some a
+  at_behind [] m k a e = let z : 0 + k ≡ k = omega arith in ap (get_elem? m) z ∙ e
+  at_behind (x ∷ xs) m k a e = let z : suc (length xs) + k ≡ suc (length xs + k) = omega arith in ap (get_elem? (x ∷ (xs ++ m))) z ∙ at_behind xs m k a e

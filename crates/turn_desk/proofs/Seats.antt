@@ -1,5 +1,5 @@
 -- Making a pass and joining one into another keep the desk rule.
-use Rattle.std.proofs.Common.{◌≡◌, ◌≢◌, ℕ, ◌+◌, ◌<◌, ◌≤◌, ◌==◌, Bool, cond, zero, suc, List, [], ◌∷◌, ◌++◌, length, get_or, set, max, sym, refl, ap, ◌∙◌, subst, ⊎_elim, inl, inr, arith, Option, eq-eqb, ne_eqb, sum_by, count_by}
+use Rattle.std.proofs.Common.{◌≡◌, ◌≢◌, ℕ, ◌+◌, ◌*◌, ◌<◌, ◌≤◌, ◌==◌, Bool, cond, zero, suc, List, [], ◌∷◌, ◌++◌, length, get_or, set, max, sym, refl, ap, ◌∙◌, subst, ⊎_elim, inl, inr, arith, Option, eq-eqb, ne_eqb, sum_by, count_by}
 use Rattle.std.proofs.lemmas.List.{get_or_past, length-replicate}
 use Rattle.std.proofs.lemmas.List.Sums.{sum_by_push, sum_by-append}
 use Rattle.std.proofs.Math.Nat.{le-max_left, max-le}
@@ -18,6 +18,7 @@ use Rattle.love_base.specs.Prefix.{IsPrefix}
 use Rattle.turn_desk.specs.View.{blank, spot, own_count, number_count, makes_one, newcomer, joined, all_joined, both, spent}
 use Rattle.turn_desk.specs.Rule.{World, Knows, Named, ObjectOk, Desked}
 use Rattle.turn_desk.proofs.Lists.{set_there, at_either, at_end, sum_set}
+use Rattle.turn_desk.proofs.Notes.{both_numbers, signed_both, signed_nothing}
 use Rattle.turn_desk.proofs.Views.{blank_spot, joined_spot, length_joined}
 
 -- a number stands once in the list of itself, and no other does
@@ -40,20 +41,6 @@ module _ {E : Type 0} where
   new_owns : (v : View E) (o q : ℕ) → own_count o q (newcomer v) ≡ 0
   new_owns v o q = ap (λ (x : Spot E). count_by (λ (w : Own). w.place == q) x.own) (new_spot v o)
 
-  knows_nothing : (W : World E) (v : View E) → Knows W v → Knows W (newcomer v)
-  knows_nothing W v k = record {
-    wide = length-replicate (length v.spots) blank ∙ k.wide;
-    seats = k.seats;
-    awaited = k.awaited;
-    kinds = k.kinds;
-    fixed = k.fixed;
-    handed = λ i l e. absurd (some-ne-none l (sym e));
-    prefix = λ o. subst (λ (x : Spot E). IsPrefix x.known (W.logs o)) (sym (new_spot v o)) (W.logs o, refl);
-    front = λ o. subst (λ (x : Spot E). (length x.known ≤ x.front) × (x.front ≤ length (W.logs o))) (sym (new_spot v o)) (omega arith, omega arith);
-    told = λ o k t e. absurd (some-ne-none t (sym (subst (λ (x : Spot E). get_elem? x.told k ≡ some t) (new_spot v o) e)));
-    refused = λ k f e. absurd (some-ne-none f (sym e));
-  }
-
   -- what two passes together know of an object of the desk
   both_spot : (W : World E) (v w : View E) (o : ℕ) → o < W.objects → length v.spots ≡ W.objects → length w.spots ≡ W.objects → spot (both v w) o ≡ joined w.number (spot v o) (spot w o)
   both_spot W v w o lt a b = joined_spot w.number v.spots w.spots o (omega arith) (omega arith)
@@ -67,8 +54,37 @@ module _ {E : Type 0} where
   handed y seat log known his zero t e = subst (λ (z : Told E). IsPrefix z.known log) (some-injective (record { seat = seat; known = y.known }) t e) known
   handed y seat log known his (suc k) t e = his k t e
 
-  knows_both : (W : World E) (v w : View E) → Knows W v → Knows W w → Knows W (both v w)
-  knows_both W v w a b =
+  pub both_own_at : (v w : View E) (o q : ℕ) → o < length v.spots → o < length w.spots → own_count o q (both v w) ≡ own_count o q v + own_count o q w
+  both_own_at v w o q a b = ap (λ (x : Spot E). count_by (λ (z : Own). z.place == q) x.own) (joined_spot w.number v.spots w.spots o a b) ∙ sum_by-append (λ (z : Own). cond (z.place == q) 1 0) (spot v o).own (spot w o).own
+
+  -- a sum over the views once one of them was cut in two
+  split_sum : (f : View E → ℕ) (views : List (View E)) (id : ℕ) (v left right : View E) → get_elem? views id ≡ some v → f left ≡ f v → sum_by f (set views id left ++ right ∷ []) ≡ sum_by f views + f right
+  split_sum f views id v left right at e = let a = sum_set f views id v left at in let b = sum_by_push f (set views id left) right in omega arith
+
+  -- a sum over the views once two of them were put together
+  join_sum : (f : View E → ℕ) (views : List (View E)) (id other : ℕ) (v w b c : View E) → get_elem? views id ≡ some v → get_elem? (set views id b) other ≡ some w → f b ≡ f v + f w → f c ≡ 0 → sum_by f (set (set views id b) other c) ≡ sum_by f views
+  join_sum f views id other v w b c at there e z = let x = sum_set f views id v b at in let y = sum_set f (set views id b) other w c there in omega arith
+
+module _ {E : Type 0} (summed : List E → ℕ) (between : List E → Bool) where
+  knows_nothing : (W : World E) (v : View E) → Knows summed between W v → Knows summed between W (newcomer v)
+  knows_nothing W v k = record {
+    wide = length-replicate (length v.spots) blank ∙ k.wide;
+    seats = k.seats;
+    awaited = k.awaited;
+    kinds = k.kinds;
+    fixed = k.fixed;
+    handed = λ i l e. absurd (some-ne-none l (sym e));
+    prefix = λ o. subst (λ (x : Spot E). IsPrefix x.known (W.logs o)) (sym (new_spot v o)) (W.logs o, refl);
+    front = λ o. subst (λ (x : Spot E). (length x.known ≤ x.front) × (x.front ≤ length (W.logs o))) (sym (new_spot v o)) (omega arith, omega arith);
+    told = λ o k t e. absurd (some-ne-none t (sym (subst (λ (x : Spot E). get_elem? x.told k ≡ some t) (new_spot v o) e)));
+    own = λ o k w e. absurd (some-ne-none w (sym (subst (λ (x : Spot E). get_elem? x.own k ≡ some w) (new_spot v o) e)));
+    looks = λ k l e. absurd (some-ne-none l (sym e));
+    actions = λ k a e. absurd (some-ne-none a (sym e));
+    signed = signed_nothing (newcomer v) (new_spot v) refl refl refl;
+  }
+
+  knows_both : (W : World E) (v w : View E) → 0 < number_count w.number w → Knows summed between W v → Knows summed between W w → Knows summed between W (both v w)
+  knows_both W v w has a b =
       let here = λ (o : ℕ) (lt : o < W.objects). both_spot W v w o lt a.wide b.wide in let past = λ (o : ℕ) (nlt : ¬ (o < W.objects)). both_past W v w o nlt a.wide in record {
         wide = length_joined w.number v.spots w.spots ∙ a.wide;
         seats = a.seats;
@@ -88,22 +104,14 @@ module _ {E : Type 0} where
             (λ (q : (i : ℕ) × (get_elem? (record { seat = w.number; known = (spot w o).known } ∷ (spot w o).told) i ≡ some t)). handed (spot w o) w.number (W.logs o) (b.prefix o) (b.told o) q.0 t q.1)
             (at_either (spot v o).told (record { seat = w.number; known = (spot w o).known } ∷ (spot w o).told) k t e'))
             (λ nlt. absurd (some-ne-none t (sym (subst (λ (z : Spot E). get_elem? z.told k ≡ some t) (past o (λ l. nlt (omega arith))) e))));
-        refused = λ k f e. ⊎_elim (λ (q : get_elem? v.refused k ≡ some f). a.refused k f q) (λ (q : (i : ℕ) × (get_elem? w.refused i ≡ some f)). b.refused q.0 f q.1) (at_either v.refused w.refused k f e);
+        own = λ o k z e. dite (dec_le (o + 1) W.objects)
+            (λ lt. let e' = subst (λ (x : Spot E). get_elem? x.own k ≡ some z) (here o (omega arith)) e in
+            ⊎_elim (λ (q : get_elem? (spot v o).own k ≡ some z). a.own o k z q) (λ (q : (i : ℕ) × (get_elem? (spot w o).own i ≡ some z)). b.own o q.0 z q.1) (at_either (spot v o).own (spot w o).own k z e'))
+            (λ nlt. absurd (some-ne-none z (sym (subst (λ (x : Spot E). get_elem? x.own k ≡ some z) (past o (λ l. nlt (omega arith))) e))));
+        looks = λ k l e. ⊎_elim (λ (q : get_elem? v.looks k ≡ some l). a.looks k l q) (λ (q : (i : ℕ) × (get_elem? w.looks i ≡ some l)). b.looks q.0 l q.1) (at_either v.looks w.looks k l e);
+        actions = λ k x e. ⊎_elim (λ (q : get_elem? v.actions k ≡ some x). a.actions k x q) (λ (q : (i : ℕ) × (get_elem? w.actions i ≡ some x)). b.actions q.0 x q.1) (at_either v.actions w.actions k x e);
+        signed = signed_both v w (a.wide ∙ sym b.wide) (a.seats ∙ sym b.seats) has a.signed b.signed;
       }
-
-  pub both_own_at : (v w : View E) (o q : ℕ) → o < length v.spots → o < length w.spots → own_count o q (both v w) ≡ own_count o q v + own_count o q w
-  both_own_at v w o q a b = ap (λ (x : Spot E). count_by (λ (z : Own). z.place == q) x.own) (joined_spot w.number v.spots w.spots o a b) ∙ sum_by-append (λ (z : Own). cond (z.place == q) 1 0) (spot v o).own (spot w o).own
-
-  pub both_numbers : (v w : View E) (n : ℕ) → number_count n (both v w) ≡ number_count n v + number_count n w
-  both_numbers v w n = sum_by-append (λ (k : ℕ). cond (k == n) 1 0) v.numbers w.numbers
-
-  -- a sum over the views once one of them was cut in two
-  split_sum : (f : View E → ℕ) (views : List (View E)) (id : ℕ) (v left right : View E) → get_elem? views id ≡ some v → f left ≡ f v → sum_by f (set views id left ++ right ∷ []) ≡ sum_by f views + f right
-  split_sum f views id v left right at e = let a = sum_set f views id v left at in let b = sum_by_push f (set views id left) right in omega arith
-
-  -- a sum over the views once two of them were put together
-  join_sum : (f : View E → ℕ) (views : List (View E)) (id other : ℕ) (v w b c : View E) → get_elem? views id ≡ some v → get_elem? (set views id b) other ≡ some w → f b ≡ f v + f w → f c ≡ 0 → sum_by f (set (set views id b) other c) ≡ sum_by f views
-  join_sum f views id other v w b c at there e z = let x = sum_set f views id v b at in let y = sum_set f (set views id b) other w c there in omega arith
 
 module _ {O E : Type 0} (history : O → List E) (number : O → ℕ) (summed : List E → ℕ) (between : List E → Bool) where
   abbrev Rule : State (Option O) (View E) → Type 0
@@ -126,7 +134,7 @@ module _ {O E : Type 0} (history : O → List E) (number : O → ℕ) (summed : 
         (λ q. (a.0, j, u, at_longer views (newcomer v ∷ []) j u (set_else s.views id j left q ∙ a.3), a.4, a.5));
     busy = λ j u e p. ⊎_elim
         (λ (b : get_elem? views j ≡ some u). ⊎_elim
-        (λ (t : (j ≡ id) × (left ≡ u)). subst (λ (z : View E). (get_or s.words o 0 ≡ z.number) × (0 < z.number) × ((spot z o).known ≡ r.world.logs o)) t.1 (ob.busy id v at (subst (λ (z : View E). (spot z o).phase ≢ Free) (sym t.1) p)))
+        (λ (t : (j ≡ id) × (left ≡ u)). subst (λ (z : View E). (get_or s.words (8 * o) 0 ≡ z.number) × (0 < z.number) × ((spot z o).known ≡ r.world.logs o)) t.1 (ob.busy id v at (subst (λ (z : View E). (spot z o).phase ≢ Free) (sym t.1) p)))
         (λ (t : (j ≢ id) × (get_elem? s.views j ≡ some u)). ob.busy j u t.1 p)
         (at_set s.views id j left u b))
         (λ (b : (j ≡ length views) × (newcomer v ≡ u)). absurd (p (ap (λ (z : View E). (spot z o).phase) (sym b.1) ∙ ap (λ (x : Spot E). x.phase) (new_spot v o))))
@@ -146,6 +154,7 @@ module _ {O E : Type 0} (history : O → List E) (number : O → ℕ) (summed : 
         deep = r.deep;
         within = λ _. omega arith;
         most = r.most;
+        carried = r.carried;
         once = λ n low high. let a = sum n in dite (ℕ_discrete n v.next)
             (λ e. let old = r.else n (inr (omega arith)) in let new = alone_here n v.next e in omega arith)
             (λ ne. let old = r.once n low (omega arith) in let new = alone_else n v.next ne in omega arith);
@@ -154,17 +163,17 @@ module _ {O E : Type 0} (history : O → List E) (number : O → ℕ) (summed : 
         objects = λ o lt. object_split s r o id v lt at;
         named = λ j u e. ⊎_elim
             (λ (b : get_elem? views j ≡ some u). ⊎_elim
-            (λ (t : (j ≡ id) × (left ≡ u)). subst (λ (z : ℕ × View E). Named (r.next + 1) r.maker z.0 z.1) (λ i. (sym t.0 i, t.1 i)) (record { own = mine.own; makes = λ _. (omega arith, makes.1); spent = mine.spent }))
+            (λ (t : (j ≡ id) × (left ≡ u)). subst (λ (z : ℕ × View E). Named (r.next + 1) r.maker z.0 z.1) (λ i. (sym t.0 i, t.1 i)) (record { own = mine.own; makes = λ _. (omega arith, makes.1, makes.2); spent = mine.spent }))
             (λ (t : (j ≢ id) × (get_elem? s.views j ≡ some u)). let d = r.named j u t.1 in record { own = d.own; makes = λ p. absurd (t.0 ((d.makes p).1 ∙ sym makes.1)); spent = d.spent })
             (at_set s.views id j left u b))
             (λ (b : (j ≡ length views) × (right ≡ u)). subst (Named (r.next + 1) r.maker j) b.1 (record { own = λ _. let new = alone_here v.next v.next refl in omega arith; makes = λ p. absurd (omega arith); spent = λ z. absurd (omega arith) }))
             (at_end views right u j e);
         knows = λ j u e p. ⊎_elim
             (λ (b : get_elem? views j ≡ some u). ⊎_elim
-            (λ (t : (j ≡ id) × (left ≡ u)). subst (Knows r.world) t.1 (record { wide = knows.wide; seats = knows.seats; awaited = knows.awaited; kinds = knows.kinds; fixed = knows.fixed; handed = knows.handed; prefix = knows.prefix; front = knows.front; told = knows.told; refused = knows.refused }))
+            (λ (t : (j ≡ id) × (left ≡ u)). subst (Knows summed between r.world) t.1 (record { wide = knows.wide; seats = knows.seats; awaited = knows.awaited; kinds = knows.kinds; fixed = knows.fixed; handed = knows.handed; prefix = knows.prefix; front = knows.front; told = knows.told; own = knows.own; looks = knows.looks; actions = knows.actions; signed = record { own = knows.signed.own; told = knows.signed.told; refused = knows.signed.refused; looks = knows.signed.looks; actions = knows.signed.actions } }))
             (λ (t : (j ≢ id) × (get_elem? s.views j ≡ some u)). r.knows j u t.1 p)
             (at_set s.views id j left u b))
-            (λ (b : (j ≡ length views) × (right ≡ u)). subst (Knows r.world) b.1 (knows_nothing r.world v knows))
+            (λ (b : (j ≡ length views) × (right ≡ u)). subst (Knows summed between r.world) b.1 (knows_nothing summed between r.world v knows))
             (at_end views right u j e);
       }
 
@@ -196,7 +205,7 @@ module _ {O E : Type 0} (history : O → List E) (number : O → ℕ) (summed : 
             (λ (t : (j ≡ other) × (spent ≡ u)). absurd (p (ap (λ (z : View E). (spot z o).phase) (sym t.1))))
             (λ (t : (j ≢ other) × (get_elem? views j ≡ some u)). ⊎_elim
             (λ (q : (j ≡ id) × (b ≡ u)). let d = ob.busy id v at (subst (λ (x : Spot E). x.phase ≢ Free) here (subst (λ (z : View E). (spot z o).phase ≢ Free) (sym q.1) p)) in
-            subst (λ (z : View E). (get_or s.words o 0 ≡ z.number) × (0 < z.number) × ((spot z o).known ≡ r.world.logs o)) q.1 (d.0, d.1, ap (λ (x : Spot E). x.known) here ∙ d.2))
+            subst (λ (z : View E). (get_or s.words (8 * o) 0 ≡ z.number) × (0 < z.number) × ((spot z o).known ≡ r.world.logs o)) q.1 (d.0, d.1, ap (λ (x : Spot E). x.known) here ∙ d.2))
             (λ (q : (j ≢ id) × (get_elem? s.views j ≡ some u)). ob.busy j u q.1 p)
             (at_set s.views id j b u t.1))
             (at_set views other j spent u e);
@@ -215,6 +224,7 @@ module _ {O E : Type 0} (history : O → List E) (number : O → ℕ) (summed : 
         deep = r.deep;
         within = r.within;
         most = r.most;
+        carried = r.carried;
         once = λ n low high. join_sum (number_count n) s.views id other v w b spent at there (both_numbers v w n) refl ∙ r.once n low high;
         else = λ n out. join_sum (number_count n) s.views id other v w b spent at there (both_numbers v w n) refl ∙ r.else n out;
         objects = λ o lt. object_joined s r o id other v w lt at ne was real his_real (idle o);
@@ -232,7 +242,7 @@ module _ {O E : Type 0} (history : O → List E) (number : O → ℕ) (summed : 
         knows = λ j u e p. ⊎_elim
             (λ (t : (j ≡ other) × (spent ≡ u)). let z : u.number ≡ 0 = ap (λ (y : View E). y.number) (sym t.1) in absurd (omega arith))
             (λ (t : (j ≢ other) × (get_elem? views j ≡ some u)). ⊎_elim
-            (λ (q : (j ≡ id) × (b ≡ u)). subst (Knows r.world) q.1 (knows_both r.world v w knows his))
+            (λ (q : (j ≡ id) × (b ≡ u)). subst (Knows summed between r.world) q.1 (knows_both summed between r.world v w ((r.named other w was).own his_real) knows his))
             (λ (q : (j ≢ id) × (get_elem? s.views j ≡ some u)). r.knows j u q.1 p)
             (at_set s.views id j b u t.1))
             (at_set views other j spent u e);

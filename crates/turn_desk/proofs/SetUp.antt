@@ -1,5 +1,5 @@
 -- Setting up: bringing the number of passes and the fixed numbers, while one pass alone was made, keeps the desk rule.
-use Rattle.std.proofs.Common.{◌≡◌, ◌≢◌, ℕ, ◌+◌, ◌<◌, ◌≤◌, Bool, eqb, cond, List, [], length, get_or, set, sym, refl, ap, ◌∙◌, subst, ⊎_elim, arith, Option, length-set, get_or-set_other, get_or-set_same, eq-eqb, ne_eqb}
+use Rattle.std.proofs.Common.{◌≡◌, ◌≢◌, ℕ, ◌+◌, ◌*◌, ◌<◌, ◌≤◌, Bool, eqb, cond, List, [], length, get_or, set, sym, refl, ap, ◌∙◌, subst, ⊎_elim, arith, Option, length-set, get_or-set_other, get_or-set_same, eq-eqb, ne_eqb}
 use Rattle.std.proofs.lemmas.List.{set-get_or}
 use mathlib.Core.Logic.{dite}
 use mathlib.Core.Option.{some, none, some-ne-none}
@@ -26,7 +26,8 @@ module _ {E : Type 0} where
   abbrev pub with_object : World E → ℕ → ℕ → World E
   with_object W o number = record W { awaited = o; fixes = λ p. cond (eqb p o) number (W.fixes p) }
 
-  knows_seats : (W : World E) (v : View E) (seats : ℕ) → v.seats ≡ 0 → Knows W v → Knows (with_seats W seats) (seated seats v)
+module _ {E : Type 0} (summed : List E → ℕ) (between : List E → Bool) where
+  knows_seats : (W : World E) (v : View E) (seats : ℕ) → v.seats ≡ 0 → Knows summed between W v → Knows summed between (with_seats W seats) (seated seats v)
   knows_seats W v seats none_yet k = record {
     wide = k.wide;
     seats = refl;
@@ -37,10 +38,19 @@ module _ {E : Type 0} where
     prefix = k.prefix;
     front = k.front;
     told = k.told;
-    refused = λ i f e. let a = k.refused i f e in let b : v.seats ≡ W.seats = k.seats in absurd (omega arith);
+    own = λ o i w e. let a = k.own o i w e in record { real = a.real; within = a.within; carries = a.carries };
+    looks = k.looks;
+    actions = λ i a e. let f = k.actions i a e in record { here = f.here; there = f.there };
+    signed = record {
+      own = k.signed.own;
+      told = k.signed.told;
+      refused = λ i r e. let a = k.signed.refused i r e in let low = a.1 in let high = a.2 in absurd (omega arith);
+      looks = k.signed.looks;
+      actions = k.signed.actions;
+    };
   }
 
-  knows_object : (W : World E) (v : View E) (o number : ℕ) → o < W.objects → v.handed ≡ [] → Knows W v → Knows (with_object W o number) (brought o number v)
+  knows_object : (W : World E) (v : View E) (o number : ℕ) → o < W.objects → v.handed ≡ [] → Knows summed between W v → Knows summed between (with_object W o number) (brought o number v)
   knows_object W v o number lt unhanded k = let kinds : length v.fixed ≡ W.objects = k.kinds in record {
     wide = k.wide;
     seats = k.seats;
@@ -53,7 +63,10 @@ module _ {E : Type 0} where
     prefix = k.prefix;
     front = k.front;
     told = k.told;
-    refused = k.refused;
+    own = λ p i w e. let a = k.own p i w e in record { real = a.real; within = a.within; carries = a.carries };
+    looks = k.looks;
+    actions = λ i a e. let f = k.actions i a e in record { here = f.here; there = f.there };
+    signed = record { own = k.signed.own; told = k.signed.told; refused = k.signed.refused; looks = k.signed.looks; actions = k.signed.actions };
   }
 
 module _ {O E : Type 0} (history : O → List E) (number : O → ℕ) (summed : List E → ℕ) (between : List E → Bool) where
@@ -69,8 +82,8 @@ module _ {O E : Type 0} (history : O → List E) (number : O → ℕ) (summed : 
         tt,
         subst (λ (ws : List ℕ). Rule record { words = ws; homes = s.homes; views = set s.views id w }) (sym (set-get_or s.words 0 0))
             (restated history number summed between s r W' r.world.objects id m.0 w s.words s.homes at real (record { number = refl; numbers = refl; next = refl; spots = λ p _. refl })
-            (record { objects = refl; within = λ _. omega arith; most = few }) refl refl (λ p _ l. record { turn = refl; tally = refl; slot = refl; log = refl; fix = refl; awaits = λ z. z; has = λ z. z })
-            (knows_seats r.world m.0 seats none_yet (r.knows id m.0 at real)) (λ j u ne there b. absurd (alone history number summed between s r id m.0 at real two j u ne there b)) (λ l. absurd (omega arith))),
+            (record { objects = refl; within = λ _. omega arith; most = few; carried = λ o i low high. let c = r.carried o i low high in c }) refl refl (λ p _ l. record { turn = refl; tally = refl; slot = refl; log = refl; fix = refl; awaits = λ z. z; has = λ z. z })
+            (knows_seats summed between r.world m.0 seats none_yet (r.knows id m.0 at real)) (λ j u ne there b. absurd (alone history number summed between s r id m.0 at real two j u ne there b)) (λ l. absurd (omega arith))),
         refl,
       )
 
@@ -78,7 +91,7 @@ module _ {O E : Type 0} (history : O → List E) (number : O → ℕ) (summed : 
   object_brought : (s : State (Option O) (View E)) (r : Rule s) (o id number' : ℕ) (v : View E) → (lt : o < r.world.objects) → get_elem? s.views id ≡ some v → (spot v o).phase ≢ Free
       → ObjectOk history number summed between s.words s.homes (set s.views id (brought o number' v)) (with_object r.world o number') o
   object_brought s r o id number' v lt at busy =
-      let ob = r.objects o lt in let mine = ob.busy id v at busy in let positive : 0 < v.number = mine.1 in let turned : get_or s.words o 0 ≡ v.number = mine.0 in let w : View E = brought o number' v in record {
+      let ob = r.objects o lt in let mine = ob.busy id v at busy in let positive : 0 < v.number = mine.1 in let turned : get_or s.words (8 * o) 0 ≡ v.number = mine.0 in let w : View E = brought o number' v in record {
         tally = ob.tally;
         short = ob.short;
         small = ob.small;
@@ -105,9 +118,9 @@ module _ {O E : Type 0} (history : O → List E) (number : O → ℕ) (summed : 
         tt,
         subst (λ (ws : List ℕ). Rule record { words = ws; homes = s.homes; views = set s.views id w }) (sym (set-get_or s.words 0 0))
             (restated history number summed between s r W' o id m.0 w s.words s.homes at real (record { number = refl; numbers = refl; next = refl; spots = λ p _. refl })
-            (record { objects = refl; within = r.within; most = r.most }) refl refl
+            (record { objects = refl; within = r.within; most = r.most; carried = λ p i low high. let c = r.carried p i low high in c }) refl refl
             (λ p ne l. record { turn = refl; tally = refl; slot = refl; log = refl; fix = ap (λ (b : Bool). cond b number' (r.world.fixes p)) (ne_eqb p o ne); awaits = λ z. omega arith; has = λ z. omega arith })
-            (knows_object r.world m.0 o number' inside unhanded knows) (λ j u ne there b. absurd (alone history number summed between s r id m.0 at real two j u ne there b))
+            (knows_object summed between r.world m.0 o number' inside unhanded knows) (λ j u ne there b. absurd (alone history number summed between s r id m.0 at real two j u ne there b))
             (λ _. object_brought s r o id number' m.0 inside at busy)),
         refl,
       )

@@ -1,21 +1,23 @@
 -- What stands of a desk once its table is closed, in the terms of the passes that were given back.
-use Rattle.std.proofs.Common.{◌≡◌, ◌⊎◌, ℕ, ◌+◌, ◌-◌, ◌<◌, ◌≤◌, Bool, zero, suc, List, [], ◌∷◌, ◌++◌, map, length, get_or, set, sym, refl, ap, ◌∙◌, subst, arith, Option, Some, All, Contains, sum_by, slice_get, take, false, get_or-set_same, get_or-set_other}
-use Rattle.std.proofs.lemmas.List.{length-map}
+use Rattle.std.proofs.Common.{◌≡◌, ◌⊎◌, ℕ, ◌+◌, ◌-◌, ◌<◌, ◌≤◌, Bool, zero, suc, List, [], ◌∷◌, ◌++◌, map, length, get_or, set, sym, refl, ap, ◌∙◌, subst, arith, Option, Some, All, Contains, sum_by, slice_get, take, true, false, get_or-set_same, get_or-set_other}
+use Rattle.std.proofs.lemmas.List.{get_or_past, length-map}
 use Rattle.std.proofs.lemmas.List.Sums.{sum_by-cons}
 use mathlib.Core.Logic.{dite}
-use native.Mathlib.Decide.{ℕ_discrete}
+use native.Mathlib.Decide.{dec_le, ℕ_discrete}
 use mathlib.Core.Option.{some, some-injective, some-ne-none}
 use lib.ListN.{get_elem?}
 use Rattle.atomic_table.specs.Table.{Final, Seen, Me}
 use Rattle.turn_desk.specs.declared.view.Spot.{Spot}
 use Rattle.turn_desk.specs.declared.view.View.{View}
 use Rattle.love_base.specs.Prefix.{IsPrefix}
-use Rattle.turn_desk.specs.View.{blank, spot, own_count, number_count}
-use Rattle.turn_desk.specs.Rule.{Desked}
+use Rattle.turn_desk.specs.declared.view.Own.{Own}
+use Rattle.turn_desk.specs.Notes.{IsPast, IsShown}
+use Rattle.turn_desk.specs.View.{blank, spot, fronts_of, own_count, number_count}
+use Rattle.turn_desk.specs.Rule.{World, Desked, IsEntry}
 use Rattle.turn_desk.specs.Passes.{Standing, fixed_at}
-use Rattle.turn_desk.specs.Closing.{numbers_of, views_of, own_total, front_of, fronts_of, gathered, Gathers, AtEachObject, AllFilled}
-use Rattle.turn_desk.proofs.Lists.{at_below, sum_at}
-use Rattle.turn_desk.proofs.AllBack.{IsHome, all_home, numbers_apart, numbered, placed_row, placed_length}
+use Rattle.turn_desk.specs.Closing.{numbers_of, views_of, own_total, front_of, gathered, Gathers, AtEachObject, AllFilled, LooksStand, EntriesStand, EntriesCarry, ActionsStand, ActionsFollow}
+use Rattle.turn_desk.proofs.Lists.{at_below, map_default, sum_at}
+use Rattle.turn_desk.proofs.AllBack.{IsHome, IsTrueIn, all_home, all_true, numbers_apart, numbered, placed_row, placed_length}
 
 module _ {A : Type 0} where
   pub some_at : (xs : List A) (k : ℕ) → k < length xs → (x : A) × (get_elem? xs k ≡ some x)
@@ -37,11 +39,6 @@ module _ {A : Type 0} where
   map_or f [] k x d e = absurd (some-ne-none x (sym e))
   map_or f (y ∷ ys) zero x d e = ap f (some-injective y x e)
   map_or f (y ∷ ys) (suc k) x d e = map_or f ys k x d e
-
-  map_default : {B : Type 0} (f : A → B) (xs : List A) (k : ℕ) (d : A) → get_or (map f xs) k (f d) ≡ f (get_or xs k d)
-  map_default f [] k d = refl
-  map_default f (x ∷ xs) zero d = refl
-  map_default f (x ∷ xs) (suc k) d = map_default f xs k d
 
   sum_map : {B : Type 0} (f : B → ℕ) (h : A → B) (xs : List A) → sum_by f (map h xs) ≡ sum_by (λ x. f (h x)) xs
   sum_map f h [] = refl
@@ -94,7 +91,11 @@ module _ {O E : Type 0} (history : O → List E) (number : O → ℕ) (summed : 
   counted n low high = let h = given_back n low high in let a = sum_at (number_count n) vs h.0 h.1 h.2 in
       let b : number_count n h.1 ≡ 1 = ap (λ (m : ℕ). number_count m h.1) (sym h.3) ∙ numbered seats slots h.1 (g.back h.0 h.1 h.2) in omega arith
 
-  home : (o : ℕ) → o < slots → IsHome history number summed between vs f.0.homes o
+  -- the histories as they stand at the end
+  abbrev world : World E
+  world = seen.0.world
+
+  home : (o : ℕ) → o < slots → IsHome history number summed between world vs f.0.homes o
   home o lt = all_home history number summed between seats slots id g.base g.others f.0 seen (f.3 ∙ deep) some_seat g.back counted o lt
 
   pub filled : AllFilled xs
@@ -111,6 +112,47 @@ module _ {O E : Type 0} (history : O → List E) (number : O → ℕ) (summed : 
 
   pub known : map Some objects ≡ xs → AtEachObject objects (λ o x. All (λ p. IsPrefix (spot p.view o).known (history x)) passes)
   known taken o x e k d lt = let h = the_object taken o x e in subst (λ (y : O). IsPrefix (spot (get_or passes k d).view o).known (history y)) h.1 ((home o h.0).seen k (get_or passes k d).view (pass_at k (get_or passes k d) (or_at passes k d lt)))
+
+  pub rests : map Some objects ≡ xs → AtEachObject objects (λ o x. between (history x) ≡ true)
+  rests taken o x e = let h = the_object taken o x e in subst (λ (y : O). between (history y) ≡ true) h.1 (home o h.0).rests
+
+  -- the history of an object that is given is the one that stood at the end
+  its_log : map Some objects ≡ xs → (o : ℕ) (x : O) → slice_get objects o ≡ Some x → history x ≡ world.logs o
+  its_log taken o x e = let h = the_object taken o x e in ap history (sym h.1) ∙ (home o h.0).log
+
+  true_in : (world.objects ≡ slots) × ((k : ℕ) (u : View E) → get_elem? vs k ≡ some u → IsTrueIn summed between world u)
+  true_in = all_true history number summed between seats slots id g.base g.others f.0 seen (f.3 ∙ deep) g.back
+
+  -- each entry of a pass that was given back stands in the history, and carries what is said
+  entry : (k : ℕ) (u : View E) → get_elem? vs k ≡ some u → (o i : ℕ) (w : Own) → get_elem? (spot u o).own i ≡ some w → IsEntry world o w
+  entry k u at o i w e = let count : world.objects ≡ slots = true_in.0 in let wide : length u.spots ≡ slots = (g.back k u at).wide in dite (dec_le (o + 1) slots)
+      (λ lt. (true_in.1 k u at).own o (omega arith) i w e)
+      (λ nlt. absurd (some-ne-none w (sym (subst (λ (x : Spot E). get_elem? x.own i ≡ some w) (get_or_past u.spots o blank (omega arith)) e))))
+
+  pub looks : map Some objects ≡ xs → AtEachObject objects (λ o x. All (λ p. LooksStand summed between p.view o (history x)) passes)
+  looks taken o x e k d lt i l there same = let u : View E = (get_or passes k d).view in let at = pass_at k (get_or passes k d) (or_at passes k d lt) in (
+    subst (λ (q : ℕ). l.place ≤ (spot u q).front) same ((g.back k u at).signed.looks i l there).1,
+    subst (λ (log : List E). IsShown summed between log l) (sym (its_log taken o x e)) (subst (λ (q : ℕ). IsShown summed between (world.logs q) l) same ((true_in.1 k u at).looks i l there)),
+  )
+
+  pub entries : map Some objects ≡ xs → AtEachObject objects (λ o x. All (λ p. EntriesStand p.view o (history x)) passes)
+  entries taken o x e k d lt i w there = let at = pass_at k (get_or passes k d) (or_at passes k d lt) in let is = entry k (get_or passes k d).view at o i w there in let high = is.within in (
+    is.real,
+    subst (λ (log : List E). w.place ≤ length log) (sym (its_log taken o x e)) high,
+    ap (λ (l : List ℕ). get_or l o 0) is.carries ∙ (seen.0.carried o w.place is.real high).0,
+  )
+
+  pub carried : map Some objects ≡ xs → AtEachObject objects (λ b y. All (λ p. EntriesCarry p.view b (history y)) passes)
+  carried taken b y e k d lt o i w there = let at = pass_at k (get_or passes k d) (or_at passes k d lt) in let is = entry k (get_or passes k d).view at o i w there in let high = is.within in
+      subst (λ (log : List E). get_or w.carries b 0 ≤ length log) (sym (its_log taken b y e)) (subst (λ (l : List ℕ). get_or l b 0 ≤ length (world.logs b)) (sym is.carries) ((seen.0.carried o w.place is.real high).1 b))
+
+  pub actions : All (λ p. ActionsStand p.view) passes
+  actions k d lt i a there = let u : View E = (get_or passes k d).view in let at = pass_at k (get_or passes k d) (or_at passes k d lt) in (((true_in.1 k u at).actions i a there).here, ((g.back k u at).signed.actions i a there).1)
+
+  pub followed : All (λ p. All (λ q. ActionsFollow p.view q.view) passes) passes
+  followed k d lt k' d' lt' i a there b j w own low =
+      let at = pass_at k (get_or passes k d) (or_at passes k d lt) in let at' = pass_at k' (get_or passes k' d') (or_at passes k' d' lt') in let is = entry k' (get_or passes k' d').view at' b j w own in
+      subst (λ (l : List ℕ). IsPast a (get_or l a.object 0)) (sym is.carries) (((true_in.1 k (get_or passes k d).view at).actions i a there).there b w.place is.real low)
 
   total : (o p : ℕ) → own_total o p passes ≡ sum_by (own_count o p) vs
   total o p = sym (ap (sum_by (own_count o p)) g.parts ∙ sum_map (own_count o p) (λ (q : Standing E). q.view) passes)

@@ -1,6 +1,6 @@
 -- The desk rule holds of a vacant table, and what is known while the objects are put in.
-use Rattle.std.proofs.Common.{◌≡◌, ◌≢◌, ℕ, ◌+◌, ◌^◌, ◌<◌, ◌≤◌, ◌==◌, Bool, true, zero, suc, List, [], ◌∷◌, ◌++◌, map, length, get_or, set, replicate, sym, refl, ap, ◌∙◌, subst, ⊎_elim, arith, Option, None, count_by, length-append}
-use Rattle.std.proofs.lemmas.List.{length-map, length-replicate, get_or-replicate, get_or_append_left, get_or-append-add, set-get_or}
+use Rattle.std.proofs.Common.{◌≡◌, ◌≢◌, ℕ, ◌+◌, ◌^◌, ◌<◌, ◌≤◌, ◌==◌, Bool, true, zero, suc, List, [], ◌∷◌, ◌++◌, map, length, set, replicate, sym, refl, ap, ◌∙◌, subst, ⊎_elim, arith, Option, None, count_by, length-append}
+use Rattle.std.proofs.lemmas.List.{length-map, length-replicate, get_or-replicate, set-get_or}
 use Rattle.std.proofs.lemmas.List.Sums.{sum_by-cons}
 use mathlib.Core.Option.{some, some-injective, some-ne-none}
 use lib.ListN.{get_elem?}
@@ -10,9 +10,11 @@ use Rattle.turn_desk.specs.declared.view.Phase.TheVariants.{Free}
 use Rattle.turn_desk.specs.declared.view.Spot.{Spot}
 use Rattle.turn_desk.specs.declared.view.View.{View}
 use Rattle.love_base.specs.Prefix.{IsPrefix}
-use Rattle.turn_desk.specs.View.{blank, spot, own_count, number_count, taken, brought, freed, opening}
+use Rattle.turn_desk.specs.Opening.{AreFree}
+use Rattle.turn_desk.specs.View.{blank, spot, own_count, number_count, received, brought, freed, opening}
 use Rattle.turn_desk.specs.Rule.{World, Knows, Named, ObjectOk, Desked}
 use Rattle.turn_desk.proofs.Keeping.{set_twice}
+use Rattle.turn_desk.proofs.Notes.{signed_nothing}
 use Rattle.turn_desk.proofs.Seats.{alone_here, alone_else}
 use Rattle.turn_desk.proofs.Takes.{taken_spot}
 use Rattle.turn_desk.proofs.Views.{at_spot, blank_spot}
@@ -49,12 +51,13 @@ module _ {E : Type 0} where
 
   -- nothing is known yet
   abbrev first_world : ℕ → World E
-  first_world objects = record { objects = objects; seats = 0; awaited = objects; logs = λ _. []; fixes = λ _. 0 }
+  first_world objects = record { objects = objects; seats = 0; awaited = objects; logs = λ _. []; carries = λ _ _. []; fixes = λ _. 0 }
 
   first_named : (objects : ℕ) → Named 2 0 0 (first objects)
-  first_named objects = record { own = λ _. let a = alone_here 1 1 refl in omega arith; makes = λ _. (refl, refl); spent = λ z. absurd (omega arith) }
+  first_named objects = record { own = λ _. let a = alone_here 1 1 refl in omega arith; makes = λ _. (refl, refl, refl); spent = λ z. absurd (omega arith) }
 
-  first_knows : (objects : ℕ) → Knows (first_world objects) (first objects)
+module _ {E : Type 0} (summed : List E → ℕ) (between : List E → Bool) where
+  first_knows : (objects : ℕ) → Knows summed between (first_world objects) (first objects)
   first_knows objects = record {
     wide = length-replicate (length (replicate objects 0)) blank ∙ length-replicate objects 0;
     seats = refl;
@@ -65,24 +68,17 @@ module _ {E : Type 0} where
     prefix = λ o. subst (λ (x : Spot E). IsPrefix x.known []) (sym (first_spot objects o)) ([], refl);
     front = λ o. subst (λ (x : Spot E). (length x.known ≤ x.front) × (x.front ≤ 0)) (sym (first_spot objects o)) (omega arith, omega arith);
     told = λ o k t e. absurd (some-ne-none t (sym (subst (λ (x : Spot E). get_elem? x.told k ≡ some t) (first_spot objects o) e)));
-    refused = λ k r e. absurd (some-ne-none r (sym e));
+    own = λ o k w e. absurd (some-ne-none w (sym (subst (λ (x : Spot E). get_elem? x.own k ≡ some w) (first_spot objects o) e)));
+    looks = λ k l e. absurd (some-ne-none l (sym e));
+    actions = λ k a e. absurd (some-ne-none a (sym e));
+    signed = signed_nothing (first objects) (first_spot objects) refl refl refl;
   }
 
 module _ {O E : Type 0} (history : O → List E) (number : O → ℕ) (summed : List E → ℕ) (between : List E → Bool) where
-  -- the words of a desk of free objects
-  abbrev words_of : ℕ → ℕ → List ℕ
-  words_of objects summary = replicate objects 0 ++ replicate objects summary
-
-  turn_is_free : (objects summary o : ℕ) → o < objects → get_or (words_of objects summary) o 0 ≡ 0
-  turn_is_free objects summary o lt = let long = zeros objects in get_or_append_left (replicate objects 0) (replicate objects summary) 0 o (omega arith) ∙ get_or-replicate objects o 0 0 lt
-
-  tally_is : (objects summary o : ℕ) → o < objects → get_or (words_of objects summary) (objects + o) 0 ≡ summary
-  tally_is objects summary o lt = ap (λ (n : ℕ). get_or (words_of objects summary) (n + o) 0) (sym (length-replicate objects 0)) ∙ (get_or-append-add (replicate objects 0) (replicate objects summary) o 0 ∙ get_or-replicate objects o summary 0 lt)
-
-  opens_object : (objects summary o : ℕ) → o < objects → between [] ≡ true → summed [] ≡ summary → summary < 2 ^ 42
-      → ObjectOk history number summed between (words_of objects summary) (map some (replicate objects None)) (first objects ∷ []) (first_world objects) o
-  opens_object objects summary o lt rests is small = let free = turn_is_free objects summary o lt in record {
-    tally = tally_is objects summary o lt ∙ (let e : summed [] ≡ summary = is in omega arith);
+  opens_object : (objects summary o : ℕ) (words : List ℕ) → AreFree objects summary words → o < objects → between [] ≡ true → summed [] ≡ summary → summary < 2 ^ 42
+      → ObjectOk history number summed between words (map some (replicate objects None)) (first objects ∷ []) (first_world objects) o
+  opens_object objects summary o words set_up lt rests is small = let free = set_up.turns o lt in record {
+    tally = set_up.tallies o lt ∙ (let e : summed [] ≡ summary = is in omega arith);
     short = omega arith;
     small = (let e : summed [] ≡ summary = is in omega arith);
     rests = rests;
@@ -96,21 +92,22 @@ module _ {O E : Type 0} (history : O → List E) (number : O → ℕ) (summed : 
   }
 
   -- the rule holds of the table that was just made
-  pub opens : (objects summary : ℕ) → between [] ≡ true → summed [] ≡ summary → summary < 2 ^ 42
-      → Desked history number summed between (table_opening (words_of objects summary) (replicate objects None) (first objects))
-  opens objects summary rests is small = record {
+  pub opens : (objects summary : ℕ) (words : List ℕ) → AreFree objects summary words → between [] ≡ true → summed [] ≡ summary → summary < 2 ^ 42
+      → Desked history number summed between (table_opening words (replicate objects None) (first objects))
+  opens objects summary words set_up rests is small = record {
     world = first_world objects;
     next = 2;
     maker = 0;
-    wide = (let a = zeros objects in let b : length (replicate {A = ℕ} objects summary) ≡ objects = length-replicate objects summary in omega (arith, length-append (replicate objects 0) (replicate objects summary)));
+    wide = set_up.wide;
     deep = long_homes O objects;
     within = λ p. absurd (omega arith);
     most = omega arith;
+    carried = λ o i low high. absurd (omega arith);
     once = λ n low high. let a = alone_here n 1 (omega arith) in let b = sum_by-cons (number_count {E = E} n) (first objects) [] in omega arith;
     else = λ n out. let ne : n ≢ 1 = (λ e. ⊎_elim (λ (z : n ≡ 0). let f : ⊥ = omega arith in f) (λ (g : 2 ≤ n). let f : ⊥ = omega arith in f) out) in let a = alone_else n 1 ne in let b = sum_by-cons (number_count {E = E} n) (first objects) [] in omega arith;
-    objects = λ o lt. opens_object objects summary o lt rests is small;
+    objects = λ o lt. opens_object objects summary o words set_up lt rests is small;
     named = λ j v at. let h = only (first objects) v j at in subst (λ (z : ℕ × View E). Named 2 0 z.0 z.1) (λ i. (sym h.0 i, h.1 i)) (first_named objects);
-    knows = λ j v at _. let h = only (first objects) v j at in subst (Knows (first_world objects)) h.1 (first_knows objects);
+    knows = λ j v at _. let h = only (first objects) v j at in subst (Knows summed between (first_world objects)) h.1 (first_knows summed between objects);
   }
 
 at_length : (n x : ℕ) (done : List ℕ) → set (replicate (suc n) 0 ++ done) n x ≡ replicate n 0 ++ x ∷ done
@@ -123,9 +120,9 @@ placed n x done = let e : n + 1 ≡ suc n = omega arith in ap (λ (k : ℕ). set
 
 module _ {E : Type 0} where
   -- an object that was put in is known by nothing but its number
-  pub put_one : (seats n x : ℕ) (done : List ℕ) → freed n (brought n x (taken n [] (opening {E = E} 1 2 seats (n + 1) (replicate (n + 1) 0 ++ done)))) ≡ opening 1 2 seats n (replicate n 0 ++ x ∷ done)
+  pub put_one : (seats n x : ℕ) (done : List ℕ) → freed n (brought n x (received n [] (opening {E = E} 1 2 seats (n + 1) (replicate (n + 1) 0 ++ done)))) ≡ opening 1 2 seats n (replicate n 0 ++ x ∷ done)
   put_one seats n x done =
-      let fixed : List ℕ = replicate (n + 1) 0 ++ done in let v : View E = opening 1 2 seats (n + 1) fixed in let w : View E = taken n [] v in let many : ℕ = length fixed in
+      let fixed : List ℕ = replicate (n + 1) 0 ++ done in let v : View E = opening 1 2 seats (n + 1) fixed in let w : View E = received n [] v in let many : ℕ = length fixed in
       let a = zeros (n + 1) in let b = length-append (replicate (n + 1) 0) done in let c = zeros n in let d = length-append (replicate n 0) (x ∷ done) in
       let same : many ≡ length (replicate n 0 ++ x ∷ done) = omega arith in let inside : n < length v.spots = (let l = length-replicate many (blank {E = E}) in omega arith) in
       let y : Spot E = record { phase = Free; known = (spot w n).known; front = (spot w n).front; own = (spot w n).own; told = (spot w n).told } in
@@ -134,4 +131,4 @@ module _ {E : Type 0} where
       let spots : set (set v.spots n (taken_spot n [] v)) n y ≡ replicate (length (replicate n 0 ++ x ∷ done)) blank =
       set_twice v.spots n (taken_spot n [] v) y ∙ (ap (set v.spots n) (nothing ∙ sym (blank_spot many n)) ∙ (set-get_or v.spots n blank ∙ ap (λ (k : ℕ). replicate k blank) same)) in
       let numbers = placed n x done in
-      λ i. record { number = 1; numbers = 1 ∷ []; seats = seats; next = 2; awaited = n; fixed = numbers i; handed = []; spots = spots i; refused = [] }
+      λ i. record { number = 1; numbers = 1 ∷ []; seats = seats; next = 2; awaited = n; fixed = numbers i; handed = []; spots = spots i; refused = []; looks = []; actions = [] }

@@ -1,7 +1,9 @@
 pub mod View
+pub mod Notes
 pub mod Rule
 pub mod Steps
 pub mod Passes
 pub mod Lending
 pub mod Opening
 pub mod Closing
+pub mod Grew

@@ -1,7 +1,7 @@
 //! Closing a desk: all passes are joined into one, and then no object is out with any.
-ghost use Rattle.std.specs.Prelude.{◌≡◌, ℕ, ◌⊎◌, ◌+◌, ◌<◌, ◌≤◌, [], All, Contains, Some, length, map, vec_len, vec_capacity};
+ghost use Rattle.std.specs.Prelude.{◌≡◌, ℕ, ◌⊎◌, ◌<◌, ◌≤◌, [], true, All, Some, length, map, vec_len, vec_capacity};
 ghost use Rattle.std.specs.Slots.{slots_items, slots_len, IsFull};
-ghost use Rattle.turn_desk.specs.Closing.{numbers_of, views_of, HoldsNothing, own_total, front_of, Gathers, AtEachObject, AllFilled};
+ghost use Rattle.turn_desk.specs.Closing.{views_of, HoldsNothing, own_total, front_of, Gathers, AreAllBack, AtEachObject, AllFilled, LooksStand, EntriesStand, EntriesCarry, ActionsStand, ActionsFollow};
 ghost use Rattle.turn_desk.specs.Passes.{fixed_at, object_count};
 ghost use Rattle.love_base.specs.Prefix.{IsPrefix};
 ghost use Rattle.turn_desk.specs.View.{spot};
@@ -77,18 +77,28 @@ impl<O: Logged> Desk<O> {
     pub fn close(self, passes: Vec<Pass<O>>) -> (Vec<O>, Fronts)
         requires own { All (λ p. p.desk ≡ self) passes.items }
         requires free { All (λ p. HoldsNothing p.view) passes.items }
-        requires all { (n : ℕ) → 0 < n → n ≤ self.seats → Contains (numbers_of passes.items) n }
+        requires all { AreAllBack self passes.items }
         ensures count { vec_len result.0 ≡ object_count self }
         ensures replay { AtEachObject result.0.items
             (λ o x. All (λ p. x ≡ O.replay (fixed_at p.view o) (O.history x)) passes.items) }
         ensures fixed { AtEachObject result.0.items
             (λ o x. All (λ p. O.fixed_number x ≡ fixed_at p.view o) passes.items) }
+        ensures between { AtEachObject result.0.items (λ o x. O.between (O.history x) ≡ true) }
         ensures seen { AtEachObject result.0.items
             (λ o x. All (λ p. IsPrefix (spot p.view o).known (O.history x)) passes.items) }
         ensures once { AtEachObject result.0.items (λ o x. (place : ℕ) → 0 < place
             → place ≤ length (O.history x) → own_total o place passes.items ≡ 1) }
         ensures no_other { AtEachObject result.0.items (λ o x. (place : ℕ)
             → (place ≡ 0) ⊎ (length (O.history x) < place) → own_total o place passes.items ≡ 0) }
+        ensures looks { AtEachObject result.0.items (λ o x. All
+            (λ p. LooksStand O.summed O.between p.view o (O.history x)) passes.items) }
+        ensures entries { AtEachObject result.0.items
+            (λ o x. All (λ p. EntriesStand p.view o (O.history x)) passes.items) }
+        ensures carried { AtEachObject result.0.items
+            (λ o x. All (λ p. EntriesCarry p.view o (O.history x)) passes.items) }
+        ensures actions { All (λ p. ActionsStand p.view) passes.items }
+        ensures followed { All
+            (λ p. All (λ q. ActionsFollow p.view q.view) passes.items) passes.items }
         ensures rows { (length result.1 ≡ self.seats)
             × All (λ row. length row ≡ object_count self) result.1 }
         ensures fronts { All (λ p. (o : ℕ)

@@ -1,12 +1,13 @@
 //! Making a desk: its table is vacant at first, the number of passes is brought, then each object
 //! is put in with its fixed number, and then the passes are made.
-ghost use Rattle.std.specs.Prelude.{◌≡◌, ◌≢◌, ◌<◌, ◌≤◌, ◌+◌, ◌*◌, true, [], ◌∷◌, ◌++◌, All, IfOk, length, map, replicate, vec_len, vec_capacity};
+ghost use Rattle.std.specs.Prelude.{◌≡◌, ◌<◌, ◌≤◌, ◌+◌, ◌*◌, true, [], All, IfOk, length, map, replicate, vec_len};
 ghost use Rattle.turn_desk.specs.declared.view.Phase.TheVariants.{Free};
 ghost use Rattle.turn_desk.specs.Passes.{object_count};
-ghost use Rattle.turn_desk.specs.View.{spot, taken, brought, freed, seated, opening};
-ghost use Rattle.turn_desk.specs.Opening.{IsNew, opening_passes};
+ghost use Rattle.turn_desk.specs.View.{spot, received, brought, freed, seated, opening};
+ghost use Rattle.turn_desk.specs.Opening.{AreFree, IsNew, opening_passes};
+ghost use Rattle.turn_desk.specs.Passes.{IsPassOf};
 
-use crate::desk::Desk;
+use crate::desk::{Desk, turn_word};
 use crate::logged::Logged;
 use crate::pass::Pass;
 use crate::plays::{BringNumber, BringSeats, DeskTable, Give, MakeOne, Said, TakeVacant, TurnSeat};
@@ -16,17 +17,27 @@ use std::alloc::Global;
 use std::marker::Brand;
 use std::sync::atomic::AtomicU64;
 
-// The words of a desk of free objects with empty histories: a turn word for each, then a tally
-// word.
+// The words of a desk of free objects with empty histories: all 0 but the tallies.
 fn free_words(alloc: Global, objects: usize, summary: u64) -> Result<Vec<u64>, Memory>
-    ensures { IfOk result
-        (λ words. words.items ≡ replicate objects 0 ++ replicate objects summary) }
+    requires { objects ≤ 1026 }
+    ensures { IfOk result (λ words. AreFree objects summary words.items) }
 {
-    let mut words = Vec::from_elem(alloc, 0, objects)?;
-    for _ in 0..objects {
-        words.push(summary)?;
+    let mut words = Vec::from_elem(alloc, 0, objects * 8)?;
+    for object in 0..objects {
+        words[turn_word(object) + 1] = summary;
     }
     Ok(words)
+}
+
+// A count of sleepers for each object.
+fn no_sleepers(alloc: Global, objects: usize) -> Result<Vec<AtomicU64>, Memory>
+    ensures { IfOk result (λ counts. vec_len counts ≡ objects) }
+{
+    let mut counts = Vec::with_capacity(alloc, objects)?;
+    for _ in 0..objects {
+        counts.push(AtomicU64::new(0))?;
+    }
+    Ok(counts)
 }
 
 // An empty row for the fronts of each pass.
@@ -66,8 +77,8 @@ fn put_in<O: Logged, W: Said<O::Entry>>(
     value: O,
 )
     requires own { seat.old.table_id ≡ table.now.shared.table_id }
-    requires object { (object < table.now.shared.table_id.slots)
-        × (table.now.shared.table_id.words ≡ 2 * table.now.shared.table_id.slots) }
+    requires object { (object < table.now.shared.table_id.slots) × (object < 1026)
+        × (table.now.shared.table_id.words ≡ 8 * table.now.shared.table_id.slots) }
     requires said { (W.object ≡ object) × (W.number ≡ O.fixed_number value) }
     requires fresh { O.history value ≡ [] }
     requires first { (seat.old.me.0.number ≡ 1) × (seat.old.me.0.next ≡ 2)
@@ -78,23 +89,25 @@ fn put_in<O: Logged, W: Said<O::Entry>>(
     ensures own { seat.new.table_id ≡ seat.old.table_id }
     ensures put { seat.new.me
         ≡ (
-          freed object (brought object (O.fixed_number value) (taken object [] seat.old.me.0)),
+          freed object (brought object (O.fixed_number value) (received object [] seat.old.me.0)),
           seat.old.me.1,
         ) }
 {
+    let word = turn_word(object);
     table
         .shared
-        .compare_exchange::<TakeVacant>(seat, object, 0, 1);
+        .compare_exchange::<TakeVacant>(seat, word, 0, 1);
     table.shared.load::<BringNumber<W>>(seat, 0);
     drop(table.shared.exchange(seat, object, Some(value)));
-    table.shared.swap::<Give>(seat, object, 0);
+    table.shared.swap::<Give>(seat, word, 0);
 }
 
 // Puts all objects in, the last first.
 fn put_all<O: Logged>(table: &DeskTable<O>, seat: &mut TurnSeat<O>, mut objects: Vec<O>)
     requires own { seat.old.table_id ≡ table.now.shared.table_id }
     requires count { (vec_len objects ≡ table.now.shared.table_id.slots)
-        × (table.now.shared.table_id.words ≡ 2 * table.now.shared.table_id.slots) }
+        × (vec_len objects ≤ 1026)
+        × (table.now.shared.table_id.words ≡ 8 * table.now.shared.table_id.slots) }
     requires fresh { All (λ x. O.history x ≡ []) objects.items }
     requires first { seat.old.me ≡ (
       opening 1 2
@@ -195,16 +208,17 @@ impl<O: Logged> Desk<O> {
         ensures seats { IfOk result (λ made. made.0.seats ≡ seats) }
         ensures passes { IfOk result
             (λ made. made.1.items ≡ opening_passes made.0 (map O.fixed_number objects.items)) }
+        ensures members { IfOk result (λ made. All (IsPassOf made.0) made.1.items) }
     {
         let count = objects.len();
         let words = free_words(alloc, count, objects[0].summary())?;
         let room = Vec::with_capacity(alloc, count)?;
         let rows = empty_rows(alloc, seats as usize)?;
+        let sleepers = no_sleepers(alloc, count)?;
         let (table, mut seat) = Table::vacant(alloc, words.as_slice(), count, &count)?;
         bring_seats::<O, Brand>(&table, &mut seat, seats);
         put_all(&table, &mut seat, objects);
         let passes = deal(alloc, &table, seat, seats)?;
-        let sleepers = AtomicU64::new(0);
         Ok((
             Desk {
                 table,

@@ -1,7 +1,7 @@
 //! The desk rule as the rule of a table, and what each kind of step tells the pass that makes it.
 ghost use Rattle.std.specs.Prelude.{ℕ, List, [], replicate};
 ghost use Rattle.turn_desk.specs.Rule.{Desked};
-ghost use Rattle.turn_desk.specs.Steps.{took, took_vacant, seats_brought, number_brought, put_out, gave};
+ghost use Rattle.turn_desk.specs.Steps.{at_turn, at_tally, took, took_vacant, seats_brought, number_brought, put_out, gave, saw};
 ghost use Rattle.turn_desk.specs.View.{makes_one, newcomer, both, spent, opening};
 
 use crate::logged::Logged;
@@ -62,14 +62,14 @@ impl<O: Logged, W: Said<O::Entry>> Play<Option<O>, View<O::Entry>> for BringNumb
 pub(crate) struct TakeVacant;
 
 impl<O: Logged> Play<Option<O>, View<O::Entry>> for TakeVacant {
-    ghost then = { took_vacant };
+    ghost then = { at_turn took_vacant };
 }
 
 // Take.
 pub(crate) struct Take;
 
 impl<O: Logged> Play<Option<O>, View<O::Entry>> for Take {
-    ghost then = { took O.history O.fixed_number O.between };
+    ghost then = { at_turn (took O.history O.fixed_number O.summed O.between) };
 }
 
 // Publish.
@@ -78,14 +78,21 @@ pub(crate) struct Publish<W> {
 }
 
 impl<O: Logged, W: Said<O::Entry>> Play<Option<O>, View<O::Entry>> for Publish<W> {
-    ghost then = { put_out W.object W.log };
+    ghost then = { at_tally (put_out W.log) };
 }
 
 // Give.
 pub(crate) struct Give;
 
 impl<O: Logged> Play<Option<O>, View<O::Entry>> for Give {
-    ghost then = { gave };
+    ghost then = { at_turn gave };
+}
+
+// Look.
+pub(crate) struct Glimpse;
+
+impl<O: Logged> Play<Option<O>, View<O::Entry>> for Glimpse {
+    ghost then = { at_tally (saw O.summed O.between) };
 }
 
 // Split: a pass is made.

@@ -16,6 +16,9 @@ pub struct Own {
     /// The number of the pass that filled it.
     pub seat: u64,
     pub place: u64,
+    /// What the entry carries, a number for each object: at its own object its place, at each other
+    /// the front that the pass had when it published the entry.
+    pub carries: LinkedList<u64>,
 }
 
 /// What a pass that was joined in knew of an object's history.
@@ -32,6 +35,29 @@ pub struct Refusal {
     pub object: u64,
     /// The number that it found.
     pub found: u64,
+}
+
+/// A look at an object's tally.
+pub struct Look {
+    /// The number of the pass that looked.
+    pub seat: u64,
+    pub object: u64,
+    /// The length of the history that it found.
+    pub place: u64,
+    /// The summary that it found.
+    pub summary: u64,
+}
+
+/// A take, a look or a change: a step by which a pass met an object at a place of its history.
+pub struct Action {
+    /// The number of the pass that made it.
+    pub seat: u64,
+    pub object: u64,
+    pub place: u64,
+    /// Whether it filled the place.
+    pub changed: bool,
+    /// The fronts that the pass had just before the step, one for each object.
+    pub fronts: LinkedList<u64>,
 }
 
 /// What a pass knows of one object.
@@ -63,4 +89,6 @@ pub struct View<E> {
     pub handed: LinkedList<LinkedList<u64>>,
     pub spots: LinkedList<Spot<E>>,
     pub refused: LinkedList<Refusal>,
+    pub looks: LinkedList<Look>,
+    pub actions: LinkedList<Action>,
 }

@@ -1,6 +1,6 @@
 use Rattle.std.proofs.Common.{sym, ap, ◌∙◌}
-use Rattle.turn_desk.proofs.Ready.{takes_else, released_all}
-use Rattle.turn_desk.proofs.tests.three.Goals as goal
+use Rattle.turn_desk.proofs.Callers.{takes_else, released_all}
+use Rattle.turn_desk.proofs.tests.crowds.three.Goals as goal
 
 pub returns-clause-ready : goal.returns-clause-ready
 returns-clause-ready g c = let first = c.hold-first.ensures in let second = c.hold-second.ensures in let third = c.hold-third.ensures in (
