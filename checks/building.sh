@@ -93,6 +93,27 @@ check_building() {
     path=$room/mock/tools:$room/mock/few mock 'where nothing can be locked' 0 125 '' "*"$'\n'"$cannot $lock can't be locked"
     rm mock/tools/rt
     mock 'where there is no toolchain' 0 125 '' "$cannot rt, the toolchain's command, isn't on PATH"
+    outside
+}
+
+# A copy of the script in no repository makes nothing, and a shell that isn't bash says one line.
+outside() {
+    local main=$room/away/crates/love_run/src/main.rt
+    mkdir -p away/bin
+    cp "$top/bin/love_run" away/bin/
+    gives 'bin/love_run outside the repository' 125 \
+        "bin/love_run: there is no program to build: $main isn't there"$'\n' /dev/null away/bin/love_run game
+    if [[ -e away/crates ]]; then
+        note FAILED 'bin/love_run outside the repository makes nothing'
+    else
+        note ok 'bin/love_run outside the repository makes nothing'
+    fi
+    if command -v dash >/dev/null; then
+        gives 'bin/love_run, by dash' 125 \
+            $'bin/love_run: this script needs bash, and was started by another shell\n' /dev/null dash "$top/bin/love_run" game
+    else
+        note skipped 'bin/love_run, by dash' 'there is no dash'
+    fi
 }
 
 # Two calls that find no program: one of them builds, and both become it.

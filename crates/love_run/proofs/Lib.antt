@@ -1,6 +1,7 @@
 pub mod Cutting
 pub mod Forms
 pub mod Loading
+pub mod Once
 pub mod OneFile
 pub mod Order
 pub mod Reading

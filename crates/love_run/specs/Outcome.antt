@@ -8,6 +8,7 @@ use Rattle.love_base.specs.declared.sink.SinkErr.{SinkErr}
 use Rattle.love_base.specs.declared.sink.SinkErr.TheVariants as sink
 use Rattle.love_base.specs.Prefix.{IsPrefix}
 use Rattle.channel_core.specs.declared.entry.Entry.{Entry}
+use Rattle.love_run.specs.Command.{folder_named}
 use Rattle.love_run.specs.Program.{HasForm, IsProgram}
 use Rattle.love_run.specs.Run.{history, output, IsCut}
 use Rattle.love_run.specs.declared.statement.Statement.{Statement}
@@ -26,6 +27,10 @@ HasProgram files statements =
 -- the same of the files of a folder, where it tells them
 abbrev pub IsProgramOf : Option (List File) → List Statement → Type 0
 IsProgramOf told program = IfSome told (λ files. HasProgram files program)
+
+-- the program is that of the folder that the words name, where the folder tells its files
+abbrev pub IsGame : (List ℕ → Option (List File)) → List (List ℕ) → List Statement → Type 0
+IsGame files words program = IsProgramOf (files (folder_named words)) program
 
 -- the files have a `main.lua` that isn't of the form that is read
 abbrev pub HasOtherForm : List File → Type 0

@@ -5,7 +5,8 @@ ghost use Rattle.love_base.specs.Prefix.{IsPrefix};
 ghost use Rattle.channel_core.specs.History.{front};
 ghost use Rattle.channel_core.specs.Lawful.{entry_limit};
 ghost use Rattle.love_run.specs.Command.{folder_named, IsCommand};
-ghost use Rattle.love_run.specs.Outcome.{end_status, HasNoMain, HasOtherForm, HasProgram, IsProgramOf, IsStatus, RanInPart, RanNothing, RanWhole, SaysNothingRan, SaysRanWhole};
+ghost use Rattle.love_run.specs.Outcome.{end_status, HasNoMain, HasOtherForm, HasProgram, IsGame, IsStatus, RanInPart, RanNothing, RanWhole, SaysNothingRan, SaysRanWhole};
+ghost use Rattle.love_run.specs.Program.{IsProgram};
 ghost use Rattle.love_run.specs.Run.{history, popped, pushed};
 ghost use Rattle.love_run.specs.declared.statement.Statement.{Statement};
 
@@ -22,9 +23,9 @@ use std::alloc::Global;
 
 /// Reads a game, runs it and writes what it prints: all that the program does.
 ///
-/// `words` are those after the program's name. The report's status is 0 or one of
-/// [`crate::status`].
-#[tactic(auto, using(crate::proofs::Order::popped_first, crate::proofs::Order::drained))]
+/// `words` are those after the program's name. docs/COMMAND.md has the statuses that a report can
+/// have.
+#[tactic(auto, using(crate::proofs::Once::one_program, crate::proofs::Order::popped_first, crate::proofs::Order::drained))]
 pub fn love<F: Folder, S: Sink>(
     alloc: Global,
     words: &[Text],
@@ -45,18 +46,18 @@ pub fn love<F: Folder, S: Sink>(
     ensures output_fault_told { S.faults sink.old < S.faults sink.new
         → (result.status ≡ UNWRITTEN)
         ⊎ ((result.status ≡ OUT_OF_MEMORY) × ((program : List Statement)
-        × IsProgramOf (F.files folder.old (folder_named words.now)) program
+        × IsGame (F.files folder.old) words.now program
         × RanInPart program result.out result.channels)) }
     ensures out_of_form { result.status ≡ OUT_OF_FORM
         → IfSome (F.files folder.old (folder_named words.now)) HasOtherForm }
 
     // What was printed, and what became of the Channel.
     ensures ran_whole { SaysRanWhole result.status → (program : List Statement)
-        × IsProgramOf (F.files folder.old (folder_named words.now)) program
+        × IsGame (F.files folder.old) words.now program
         × RanWhole program result.out result.channels }
     ensures ran_in_part { result.status ≡ OUT_OF_MEMORY
         → RanNothing result.out result.channels ⊎ ((program : List Statement)
-        × IsProgramOf (F.files folder.old (folder_named words.now)) program
+        × IsGame (F.files folder.old) words.now program
         × (RanInPart program result.out result.channels
         ⊎ RanWhole program result.out result.channels)) }
     ensures ran_nothing { SaysNothingRan result.status → RanNothing result.out result.channels }
@@ -75,6 +76,10 @@ pub fn love<F: Folder, S: Sink>(
         → IfSome (F.files folder.old (folder_named words.now)) (λ files.
         (program : List Statement) → HasProgram files program
         → (result.status ≡ DONE) ⊎ (result.status ≡ OUT_OF_MEMORY)) }
+
+    // A source is that of at most one program.
+    ensures one_program { (source : List ℕ) (one other : List Statement)
+        → IsProgram source one → IsProgram source other → one ≡ other }
 
     // Of any program: it pops the first messages that it pushed, in that order; and a pop gives
     // `nil` exactly where all that were pushed before it were popped.

@@ -1,5 +1,5 @@
 //! Reads a `main.lua` of literals, line by line. It goes once the language is read whole.
-ghost use Rattle.std.specs.Prelude.{◌≡◌, ◌<◌, ◌↔◌, ◌≢◌, ◌∷◌, ◌++◌, ℕ, ℤ, List, length, slice_index, All, IfOk, IfSome, IfNone, IsErrOf, IsTrue};
+ghost use Rattle.std.specs.Prelude.{◌≡◌, ◌<◌, ◌↔◌, ◌≢◌, [], ◌∷◌, ◌++◌, ℕ, ℤ, List, length, slice_index, All, IfOk, IfSome, IfNone, IsErrOf, IsTrue, OnOk};
 ghost use Rattle.std.specs.Str.Parse.{AllDigits};
 ghost use Rattle.channel_core.specs.Lawful.{entry_limit};
 ghost use Rattle.love_run.specs.Program.{HasForm, IsPlain, IsProgram, lines, lines_behind, newline, Spells, SpellsEach, SpellsLiteral};
@@ -9,7 +9,7 @@ ghost use Rattle.love_run.specs.declared.statement.Statement.{Statement};
 use crate::statement::Statement;
 use love_base::{Memory, Text};
 use lua_value::Num;
-use std::alloc::{AllocFailed, Global};
+use std::alloc::Global;
 use variant::Variant;
 
 // The longest source that is read, in bytes.
@@ -45,16 +45,6 @@ impl From<Memory> for ReadFault {
     }
 }
 
-impl<T: Drop> From<AllocFailed<T>> for ReadFault {
-    ghost use Rattle.love_run.specs.declared.reader.ReadFault.TheVariants.{Memory};
-
-    ghost from_gives = { λ _ fault. fault ≡ Memory };
-
-    fn from(_refused: AllocFailed<T>) -> ReadFault {
-        ReadFault::Memory
-    }
-}
-
 // The statements of a source, one a line.
 pub(crate) fn read_program(alloc: Global, source: &[u8]) -> Result<Vec<Statement>, ReadFault>
     ensures program { IfOk result (λ statements. IsProgram source.now statements.items) }
@@ -76,10 +66,17 @@ fn read_lines(alloc: Global, source: &[u8]) -> Result<Vec<Statement>, ReadFault>
     let mut left = Some(source);
     while let Some(source) = left {
         let (line, rest) = cut_line(source);
-        statements.push(read_line(alloc, line)?)?;
+        add(&mut statements, read_line(alloc, line)?)?;
         left = rest;
     }
     Ok(statements)
+}
+
+fn add(statements: &mut Vec<Statement>, next: Statement) -> Result<(), Memory>
+    ensures { OnOk result (statements.new.items ≡ statements.old.items ++ next ∷ []) }
+{
+    statements.push(next)?;
+    Ok(())
 }
 
 // The first line, and what stands behind its newline where there is one.

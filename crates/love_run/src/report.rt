@@ -7,7 +7,7 @@ use std::alloc::Global;
 /// How a run ended, what it printed, and what became of its Channel.
 #[derive(Debug, Drop)]
 pub struct Report {
-    /// The exit status of the program: 0, or one of [`crate::status`].
+    /// The exit status of the program (docs/COMMAND.md).
     pub status: u8,
     /// What the game printed, from its start. Empty where nothing ran.
     pub out: Text,

@@ -9,7 +9,7 @@ returns-in_err-read_line-clause-out_of_form c is =
 
 pub loop-left-preserved : goal.loop-left-preserved
 loop-left-preserved c =
-    rw c.in_ok-push.ensures.items
+    rw c.in_ok-add.ensures
     (line_read _ _ _ _ _ _ _ c.in-Some.is c.cut_line.ensures.cut c.in_ok-read_line.ensures.spelled c.loop-left.invariant)
 
 pub returns-clause-program : goal.returns-clause-program
