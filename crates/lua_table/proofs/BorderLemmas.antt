@@ -3,8 +3,9 @@ use Rattle.std.proofs.Common.{◌≡◌, ℕ, zero, suc, ◌+◌, ◌-◌, ◌<�
 use native.Mathlib.Decide.{dec_lt}
 use Rattle.std.proofs.lemmas.Option.{same_Some}
 use Rattle.std.specs.Cmp.{IsEquivalence}
+use Rattle.std.specs.List.{IsDistinct}
 use Rattle.std.specs.Option.{option_and_then, option_copied}
-use Rattle.lua_table.specs.Table.{Places, get, set, clear_key, value_at, run_length, border, IsFilledTo, IsLeastBorder}
+use Rattle.lua_table.specs.Table.{Places, get, set, clear_key, value_at, run_length, border, IsFilledTo, IsLeastBorder, IsTable}
 
 -- what the keys of a table keep: equality is an equivalence and no more than sameness, and `number` turns `at` round
 pub record Lawful {K : Type 0} (same : K → K → Bool) (at : ℕ → Option K) (number : K → Option ℕ) : Type 0 where
@@ -94,32 +95,32 @@ module _ {K V : Type 0} (same : K → K → Bool) (laws : IsEquivalence same) wh
       by false e later = ap (cond (same other place.0) place.1) later
 
 module _ {K V : Type 0} {same : K → K → Bool} {at : ℕ → Option K} {number : K → Option ℕ} (lawful : Lawful same at number) where
-  value_at-set-other : (places : Places K V) (key : K) (value : V) (n : ℕ) → (number key ≡ Some n → ⊥) → value_at same at (set same places key value) n ≡ value_at same at places n
+  pub value_at-set-other : (places : Places K V) (key : K) (value : V) (n : ℕ) → (number key ≡ Some n → ⊥) → value_at same at (set same places key value) n ≡ value_at same at places n
   value_at-set-other places key value n apart = by (at n) refl
     where
       by : (o : Option K) → at n ≡ o → option_and_then (get same (set same places key value)) o ≡ option_and_then (get same places) o
       by None e = refl
       by (Some other) e = get-set same lawful.equivalence places key value other ∙ ap (λ b. cond b (Some value) (get same places other)) (apart_from lawful key other n e apart)
 
-  value_at-clear_key-other : (places : Places K V) (key : K) (n : ℕ) → (number key ≡ Some n → ⊥) → value_at same at (clear_key same places key) n ≡ value_at same at places n
+  pub value_at-clear_key-other : (places : Places K V) (key : K) (n : ℕ) → (number key ≡ Some n → ⊥) → value_at same at (clear_key same places key) n ≡ value_at same at places n
   value_at-clear_key-other places key n apart = by (at n) refl
     where
       by : (o : Option K) → at n ≡ o → option_and_then (get same (clear_key same places key)) o ≡ option_and_then (get same places) o
       by None e = refl
       by (Some other) e = get-clear_key same lawful.equivalence places key other ∙ ap (λ b. cond b None (get same places other)) (apart_from lawful key other n e apart)
 
-  value_at-set-own : (places : Places K V) (key : K) (value : V) (n : ℕ) → number key ≡ Some n → value_at same at (set same places key value) n ≡ Some value
+  pub value_at-set-own : (places : Places K V) (key : K) (value : V) (n : ℕ) → number key ≡ Some n → value_at same at (set same places key value) n ≡ Some value
   value_at-set-own places key value n own =
       ap (option_and_then (get same (set same places key value))) ((lawful.inverse key n).0 own)
       ∙ get-set same lawful.equivalence places key value key ∙ ap (λ b. cond b (Some value) (get same places key)) (lawful.equivalence.refl key)
 
-  value_at-clear_key-own : (places : Places K V) (key : K) (n : ℕ) → number key ≡ Some n → value_at same at (clear_key same places key) n ≡ None
+  pub value_at-clear_key-own : (places : Places K V) (key : K) (n : ℕ) → number key ≡ Some n → value_at same at (clear_key same places key) n ≡ None
   value_at-clear_key-own places key n own =
       ap (option_and_then (get same (clear_key same places key))) ((lawful.inverse key n).0 own)
       ∙ get-clear_key same lawful.equivalence places key key ∙ ap (λ b. cond b None (get same places key)) (lawful.equivalence.refl key)
 
   -- a value that is set leaves the positions before it filled
-  IsFilledTo-set : (places : Places K V) (key : K) (value : V) (n : ℕ) → IsFilledTo same at places n → IsFilledTo same at (set same places key value) n
+  pub IsFilledTo-set : (places : Places K V) (key : K) (value : V) (n : ℕ) → IsFilledTo same at places n → IsFilledTo same at (set same places key value) n
   IsFilledTo-set places key value n filled k low high = by (at k) refl (filled k low high)
     where
       by : (o : Option K) → at k ≡ o → IsSome (option_and_then (get same places) o) → IsSome (option_and_then (get same (set same places key value)) o)
@@ -250,3 +251,15 @@ module _ {K V : Type 0} (same : K → K → Bool) (at : ℕ → Option K) where
 pub value_there : {V : Type 0} (found : Option (Bor V)) (value : Option V) → option_copied found ≡ value → IsSome found → IsSome value
 value_there None value e some = cc
 value_there (Some v) value e some = sym (ap is_some e)
+
+-- an empty table
+pub IsTable-empty : {K V : Type 0} (same : K → K → Bool) (at : ℕ → Option K) → IsTable {K = K} {V = V} same at [] 0
+unfolding IsDistinct
+IsTable-empty {K} {V} same at = record {
+  distinct = tt;
+  border = record { filled = λ k low high. absurd (omega arith); open_after = here (at (0 + 1)) };
+}
+  where
+    here : (o : Option K) → IsNone (option_and_then (get {K = K} {V = V} same []) o)
+    here None = refl
+    here (Some key) = refl

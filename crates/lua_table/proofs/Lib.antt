@@ -1,2 +1,3 @@
 pub mod BorderLemmas
+pub mod KeysLemmas
 pub mod PlacesLemmas

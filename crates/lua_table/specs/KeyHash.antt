@@ -1,6 +1,5 @@
 -- What the hasher of keys computes. No contract of the table cites it.
-use Rattle.std.specs.Prelude.{ℕ, ◌+◌, ◌*◌, ◌/◌, ◌%◌, ◌^◌, List, [], ◌∷◌, fold, length, slice_index, ◌==◌, if◌then◌else◌}
-use Rattle.std.specs.Int.{w64, from_le_bytes}
+use Rattle.std.specs.Prelude.{ℕ, ◌+◌, ◌*◌, ◌/◌, ◌%◌, ◌^◌, List, [], ◌∷◌, fold, length, reverse, nat_le, if◌then◌else◌}
 
 -- the state after one number
 unfoldable pub stepped : ℕ → ℕ → ℕ
@@ -8,13 +7,10 @@ stepped state word =
     (word / 64 + state) % 2 ^ 64 * 0xc7a2_ea20_b2f1_4c95 % 2 ^ 64 / 2 ^ 32 % 2 ^ 26 * 8
     + word / 8 % 8 + word % 8 * 2 ^ 29
 
--- eight bytes as one number, the lowest first
+-- bytes as one number below 2^64, the lowest first
 abbrev pub word : List ℕ → ℕ
-word bytes =
-    from_le_bytes w64
-    (slice_index bytes 0 ∷ slice_index bytes 1 ∷ slice_index bytes 2 ∷ slice_index bytes 3
-    ∷ slice_index bytes 4 ∷ slice_index bytes 5 ∷ slice_index bytes 6 ∷ slice_index bytes 7 ∷ [])
+word bytes = fold (λ word byte. (word * 256 % 2 ^ 64 + byte) % 2 ^ 64) 0 (reverse bytes)
 
--- the state after some bytes: eight are one number, and others one number each
+-- the state after some bytes: up to eight are one number, and more are one number each
 abbrev pub written : ℕ → List ℕ → ℕ
-written state bytes = if length bytes == 8 then stepped state (word bytes) else fold stepped state bytes
+written state bytes = if nat_le (length bytes) 8 then stepped state (word bytes) else fold stepped state bytes

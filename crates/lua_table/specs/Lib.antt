@@ -1,2 +1,3 @@
 pub mod KeyHash
+pub mod Places
 pub mod Table

@@ -36,14 +36,13 @@ fn step(state: u64, word: u64) -> u64
     scattered * 8 + word / 8 % 8 + word % 8 * (1 << 29)
 }
 
-// Eight bytes as one number, the lowest first.
+// Up to eight bytes as one number, the lowest first.
 fn word_of(bytes: &[u8]) -> u64
-    requires { length bytes.now ≡ 8 }
     ensures { result ≡ word bytes.now }
 {
-    u64::from_le_bytes([
-        bytes[0], bytes[1], bytes[2], bytes[3], bytes[4], bytes[5], bytes[6], bytes[7],
-    ])
+    bytes.iter().rev().fold(0u64, |word, byte| {
+        word.wrapping_mul(256).wrapping_add(*byte as u64)
+    })
 }
 
 impl Hasher for KeyHasher {
@@ -58,7 +57,7 @@ impl Hasher for KeyHasher {
     }
 
     fn write(&mut self, bytes: &[u8]) {
-        self.state = if bytes.len() == 8 {
+        self.state = if bytes.len() <= 8 {
             step(self.state, word_of(bytes))
         } else {
             bytes

@@ -2,6 +2,7 @@
 #![tactic(auto)]
 
 mod key_hasher;
+mod keys;
 mod places;
 mod position;
 mod table;

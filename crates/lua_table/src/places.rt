@@ -1,107 +1,168 @@
-//! What a table does with its places, over the map that holds them.
+//! The places of a table: each key with its value, or with none where it was cleared.
 
-ghost use Rattle.std.specs.Prelude.{◌≡◌, ◌+◌, ◌<◌, ◌≤◌, drop, is_some, IfSome, IfNone, IsTrue, IsOk, OnOk, OnErr};
+ghost use Rattle.std.specs.Prelude.{◌≡◌, ◌+◌, ◌^◌, ◌<◌, ◌≤◌, [], length, drop, is_some, IfSome, IfNone, IsTrue, IsFalse, IsOk, OnOk, OnErr, Some, Ok};
 ghost use Rattle.std.specs.Map.Iter.{deref_pair};
 ghost use Rattle.std.specs.Option.{option_map, option_copied};
-ghost use Rattle.indexmap.specs.IndexMap.{index_map_len, IsUnique};
-ghost use Rattle.lua_table.specs.Table.{first, get, set, clear_key, has_place, next_after, IsFilledTo, IsLeastBorder};
+ghost use Rattle.lua_table.specs.Table as table;
+ghost use Rattle.lua_table.specs.Table.{IsFilledTo, IsLeastBorder};
 
 use crate::Position;
-use crate::key_hasher::KeyHasher;
-use indexmap::IndexMap;
+use crate::keys::Keys;
 use love_base::Memory;
-use std::hash::{BuildHasherDefault, Hash};
+use std::alloc::Global;
+use std::hash::Hash;
+use std::marker::Model;
 
-// The places of a table: each key with its value, or with none where it was cleared.
-pub(crate) type Places<K, V> = IndexMap<K, Option<V>, BuildHasherDefault<KeyHasher>>;
-
-// The value of a key, where it has one.
-pub(crate) fn value_of<'a, K: Position + Hash, V>(
-    places: &'a Places<K, V>,
-    key: &K,
-) -> Option<&'a V>
-    ensures { option_copied result ≡ get K.eq places.now.entries key.now }
-{
-    places.get(key)?.as_ref()
+#[derive(Debug, Drop)]
+pub(crate) struct Places<K: Position + Hash, V> {
+    keys: Keys<K>,
+    values: Vec<Option<V>>,
 }
 
-// Gives a key a value, at its place or at the end.
-pub(crate) fn set_place<K: Position + Hash + Drop, V: Drop>(
-    places: &mut Places<K, V>,
-    key: K,
-    value: V,
-) -> Result<(), Memory>
-    ensures ok { OnOk result (places.new.entries ≡ set K.eq places.old.entries key value) }
-    ensures refused { OnErr result (places.new.entries ≡ places.old.entries) }
-    ensures placed { IsTrue (has_place K.eq places.old.entries key) → IsOk result }
-    ensures distinct { IsUnique K.eq places.new }
-{
-    places.insert(key, Some(value))?;
-    Ok(())
+impl<K: Position + Hash, V> Model for Places<K, V> {
+    ghost use Rattle.std.specs.Prelude.{◌≡◌, length};
+    ghost use Rattle.std.specs.List.{zip};
+    ghost use Rattle.lua_table.specs.Table.{Places};
+
+    ghost Value = { Places K V };
+
+    ghost view = { λ p. zip p.keys p.values.items };
+
+    ghost invariant = { λ p. length p.keys ≡ length p.values.items };
 }
 
-// Takes the value of a key away, if it has one.
-pub(crate) fn clear_place<K: Position + Hash, V: Drop>(places: &mut Places<K, V>, key: &K)
-    ensures cleared { places.new.entries ≡ clear_key K.eq places.old.entries key.now }
-    ensures distinct { IsUnique K.eq places.new }
-{
-    if let Some(value) = places.get_mut(key) {
-        *value = None;
-    }
-    // The call says that the keys are distinct where there was nothing to clear, too.
-    let _count = places.len();
-}
-
-// The index behind the place of a key, where it has one.
-pub(crate) fn index_behind<K: Position + Hash, V>(places: &Places<K, V>, key: &K) -> Option<usize>
-    ensures within { IfSome result (λ n. n ≤ index_map_len places.now) }
-    ensures found { IfSome result (λ n.
-        next_after K.eq places.now.entries key.now ≡ Ok (first (drop n places.now.entries))) }
-    ensures known { is_some result ≡ has_place K.eq places.now.entries key.now }
-{
-    // An index and its successor fit: a map holds fewer than 2^63 places.
-    let _count = places.len();
-    Some(places.get_index_of(key)? + 1)
-}
-
-// The pair at an index, where the key there has a value.
-fn pair_at<K: Position + Hash, V>(places: &Places<K, V>, index: usize) -> Option<(&K, &V)>
-    requires { index < index_map_len places.now }
-    ensures value { IfSome result (λ pair.
-        first (drop index places.now.entries) ≡ Some (deref_pair pair)) }
-    ensures cleared { IfNone result
-        (first (drop index places.now.entries) ≡ first (drop (index + 1) places.now.entries)) }
-{
-    let (key, value) = places.get_index(index)?;
-    Some((key, value.as_ref()?))
-}
-
-// The first pair with a value from an index on.
-pub(crate) fn first_from<K: Position + Hash, V>(
-    places: &Places<K, V>,
-    start: usize,
-) -> Option<(&K, &V)>
-    requires { start ≤ index_map_len places.now }
-    ensures { option_map deref_pair result ≡ first (drop start places.now.entries) }
-{
-    for index in start..places.len() {
-        if let Some(pair) = pair_at(places, index) {
-            return Some(pair);
+impl<K: Position + Hash, V> Places<K, V> {
+    pub(crate) fn new(alloc: Global) -> Self
+        ensures { result ≡ [] }
+    {
+        Places {
+            keys: Keys::new(alloc),
+            values: Vec::new(alloc),
         }
     }
-    None
+
+    #[inline]
+    pub(crate) fn len(&self) -> usize
+        ensures len { result ≡ length self.now }
+        ensures small { result < 2 ^ 63 }
+    {
+        self.keys.len()
+    }
+
+    // The value of a key, where it has one.
+    #[inline]
+    pub(crate) fn get(&self, key: &K) -> Option<&V>
+        ensures { option_copied result ≡ table.get K.eq self.now key.now }
+    {
+        match self.keys.find(key) {
+            Some(place) => self.values[place].as_ref(),
+            None => None,
+        }
+    }
+
+    // Gives a key a value, at its place or at the end.
+    #[inline]
+    pub(crate) fn set(&mut self, key: K, value: V) -> Result<(), Memory>
+    where
+        K: Drop,
+        V: Drop,
+        ensures ok { OnOk result (self.new ≡ table.set K.eq self.old key value) }
+        ensures refused { OnErr result (self.new ≡ self.old) }
+        ensures placed { IsTrue (table.has_place K.eq self.old key) → IsOk result }
+    {
+        match self.keys.find(&key) {
+            Some(place) => {
+                self.values[place] = Some(value);
+                Ok(())
+            }
+            None => self.add(key, value),
+        }
+    }
+
+    // Gives a new key the last place.
+    #[inline(never)]
+    fn add(&mut self, key: K, value: V) -> Result<(), Memory>
+    where
+        K: Drop,
+        V: Drop,
+        requires { IsFalse (table.has_place K.eq self.old key) }
+        ensures ok { OnOk result (self.new ≡ table.set K.eq self.old key value) }
+        ensures refused { OnErr result (self.new ≡ self.old) }
+    {
+        self.values.push(Some(value))?;
+        if let Err(refused) = self.keys.add(key) {
+            let _value = self.values.pop();
+            return Err(refused);
+        }
+        Ok(())
+    }
+
+    // Takes the value of a key away, if it has one.
+    #[inline]
+    pub(crate) fn clear(&mut self, key: &K)
+    where
+        V: Drop,
+        ensures { self.new ≡ table.clear_key K.eq self.old key.now }
+    {
+        let Some(place) = self.keys.find(key) else {
+            return;
+        };
+        self.values[place] = None;
+    }
+
+    // The index behind the place of a key, where it has one.
+    #[inline]
+    pub(crate) fn index_behind(&self, key: &K) -> Option<usize>
+        ensures within { IfSome result (λ n. n ≤ length self.now) }
+        ensures found { IfSome result (λ n.
+            table.next_after K.eq self.now key.now ≡ Ok (table.first (drop n self.now))) }
+        ensures known { is_some result ≡ table.has_place K.eq self.now key.now }
+    {
+        // An index and its successor fit: there are fewer than 2^63 places.
+        let _count = self.keys.len();
+        Some(self.keys.find(key)? + 1)
+    }
+
+    // The pair at an index, where the key there has a value.
+    #[inline]
+    fn pair_at(&self, index: usize) -> Option<(&K, &V)>
+        requires { index < length self.now }
+        ensures value { IfSome result (λ pair.
+            table.first (drop index self.now) ≡ Some (deref_pair pair)) }
+        ensures cleared { IfNone result
+            (table.first (drop index self.now) ≡ table.first (drop (index + 1) self.now)) }
+    {
+        match self.values[index].as_ref() {
+            Some(value) => Some((self.keys.get(index), value)),
+            None => None,
+        }
+    }
+
+    // The first pair with a value from an index on.
+    #[inline]
+    pub(crate) fn first_from(&self, start: usize) -> Option<(&K, &V)>
+        requires { start ≤ length self.now }
+        ensures { option_map deref_pair result ≡ table.first (drop start self.now) }
+    {
+        for index in start..self.len() {
+            if let Some(pair) = self.pair_at(index) {
+                return Some(pair);
+            }
+        }
+        None
+    }
 }
 
 // The least border, where the positions up to `filled` are known to have values.
 pub(crate) fn border_from<K: Position + Hash + Drop, V>(places: &Places<K, V>, filled: u64) -> u64
-    requires { IsFilledTo K.eq K.at_position places.now.entries filled }
-    ensures { IsLeastBorder K.eq K.at_position places.now.entries result }
+    requires { IsFilledTo K.eq K.at_position places.now filled }
+    ensures { IsLeastBorder K.eq K.at_position places.now result }
 {
     // No more positions have values than there are places.
     let _most = places.len();
     let mut end = filled;
     while let Some(next) = K::at(end + 1)
-        && value_of(places, &next).is_some()
+        && places.get(&next).is_some()
     {
         end += 1;
     }

@@ -5,7 +5,7 @@ ghost use Rattle.std.specs.Prelude.{◌≡◌, ℕ, ◌≤◌, ◌↔◌, Option
 /// A type of keys that has a key for each of the numbers 1, 2, 3 up to a last one.
 ///
 /// Two keys that `==` calls equal are one and the same value.
-pub trait Position: Sized + Eq {
+pub trait Position: Sized + Copy + Eq {
     /// The last number that has a key.
     ghost last_position: { ℕ };
 

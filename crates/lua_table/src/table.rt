@@ -9,13 +9,10 @@ ghost use Rattle.lua_table.specs.Table as table;
 ghost use Rattle.lua_table.specs.Table.{IsLeastBorder};
 
 use crate::Position;
-use crate::places::{
-    Places, border_from, clear_place, first_from, index_behind, set_place, value_of,
-};
-use indexmap::IndexMap;
+use crate::places::{Places, border_from};
 use love_base::Memory;
 use std::alloc::Global;
-use std::hash::{BuildHasherDefault, Hash};
+use std::hash::Hash;
 use std::marker::Model;
 
 /// The refusal of [`Table::next`]: the key was never set.
@@ -34,9 +31,9 @@ impl<K: Position + Hash, V> Model for Table<K, V> {
 
     ghost Value = { Places K V };
 
-    ghost view = { λ t. t.places.entries };
+    ghost view = { λ t. t.places };
 
-    ghost invariant = { λ t. IsTable K.eq K.at_position t.places.entries t.border };
+    ghost invariant = { λ t. IsTable K.eq K.at_position t.places t.border };
 }
 
 impl<K: Position + Hash + Drop, V: Drop> Table<K, V> {
@@ -45,16 +42,17 @@ impl<K: Position + Hash + Drop, V: Drop> Table<K, V> {
         ensures { result ≡ [] }
     {
         Table {
-            places: IndexMap::with_hasher(alloc, BuildHasherDefault::new()),
+            places: Places::new(alloc),
             border: 0,
         }
     }
 
     /// The value of `key`; `None` where it has none. Takes no memory, expected constant time.
+    #[inline]
     pub fn get(&self, key: &K) -> Option<&V>
         ensures { option_copied result ≡ table.get K.eq self.now key.now }
     {
-        value_of(&self.places, key)
+        self.places.get(key)
     }
 
     /// Gives `key` a value. A key that was set before keeps its place and takes no memory, a new
@@ -66,6 +64,7 @@ impl<K: Position + Hash + Drop, V: Drop> Table<K, V> {
     /// # Errors
     ///
     /// [`Memory`] where there is no room for a new key. The table is then as it was.
+    #[inline]
     pub fn set(&mut self, key: K, value: V) -> Result<(), Memory>
         ensures ok { OnOk result (self.new ≡ table.set K.eq self.old key value) }
         ensures refused { OnErr result (self.new ≡ self.old) }
@@ -73,7 +72,7 @@ impl<K: Position + Hash + Drop, V: Drop> Table<K, V> {
         ensures distinct { IsDistinct K.eq (keys_of self.new) }
     {
         let position = key.position();
-        set_place(&mut self.places, key, value)?;
+        self.places.set(key, value)?;
         match position {
             Some(n) if n - 1 == self.border => self.border = border_from(&self.places, n),
             // The proof asks for an arm of its own where there is no position.
@@ -85,11 +84,12 @@ impl<K: Position + Hash + Drop, V: Drop> Table<K, V> {
 
     /// Takes the value of `key` away, if it has one. The key keeps its place. Takes no memory,
     /// expected constant time.
+    #[inline]
     pub fn clear_key(&mut self, key: &K)
         ensures cleared { self.new ≡ table.clear_key K.eq self.old key.now }
         ensures distinct { IsDistinct K.eq (keys_of self.new) }
     {
-        clear_place(&mut self.places, key);
+        self.places.clear(key);
         match key.position() {
             Some(n) if n <= self.border => self.border = n - 1,
             Some(_) => {}
@@ -106,6 +106,7 @@ impl<K: Position + Hash + Drop, V: Drop> Table<K, V> {
     /// # Errors
     ///
     /// [`NoSuchKey`] where the key was never set.
+    #[inline]
     pub fn next(&self, after: Option<&K>) -> Result<Option<(&K, &V)>, NoSuchKey>
         ensures pair { IfOk result (λ pair.
             table.next K.eq self.now (option_copied after.entry)
@@ -115,12 +116,13 @@ impl<K: Position + Hash + Drop, V: Drop> Table<K, V> {
     {
         let start = match after {
             None => 0,
-            Some(key) => index_behind(&self.places, key).ok_or(NoSuchKey)?,
+            Some(key) => self.places.index_behind(key).ok_or(NoSuchKey)?,
         };
-        Ok(first_from(&self.places, start))
+        Ok(self.places.first_from(start))
     }
 
     /// The least border (Lua 5.1 manual §2.5.5). Takes no memory, constant time.
+    #[inline]
     pub fn border(&self) -> u64
         ensures border { result ≡ table.border K.eq K.at_position self.now }
         ensures least { IsLeastBorder K.eq K.at_position self.now result }

@@ -239,7 +239,8 @@ fn a_table_shows_its_places(rt: HostRuntime) -> Result<(), Fail> {
     let text = format!(in rt.alloc(); "{table:?}")?;
     assert_eq!(rt;
         text.as_str(),
-        "Table { places: {Whole(1): Some(10)}, border: 1 }"
+        "Table { places: Places { keys: Keys { keys: [Whole(1)], listed: [1], hashed: {}, \
+         astray: false }, values: [Some(10)] }, border: 1 }"
     );
     Ok(())
 }

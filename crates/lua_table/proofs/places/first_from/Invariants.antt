@@ -1,6 +1,0 @@
-use Rattle.std.proofs.Common.{◌≡◌, drop}
-use Rattle.lua_table.specs.Table.{first}
-use Rattle.lua_table.proofs.places.first_from.Given as goal
-
-abbrev pub invariant-loop-index : goal.invariant-loop-index
-invariant-loop-index g l = first (drop l.start l.places.entries) ≡ first (drop l.index l.places.entries)
