@@ -1,5 +1,5 @@
 use crate::{NoSuchKey, Position, Table};
-use std::alloc::AllocError;
+use std::alloc::{AllocError, Global};
 use std::test::Fail;
 
 // Keys as a Lua state has them: most of them have no position.
@@ -229,6 +229,150 @@ fn a_table_is_a_plain_list_of_pairs(rt: HostRuntime) -> Result<(), Fail> {
         assert_eq!(rt; table.border(), plain_border(&pairs), "step {at}: {step:?}");
     }
     assert_eq!(rt; pairs.len(), 47);
+    Ok(())
+}
+
+// Keys 1 to 3 and no others.
+#[derive(Clone, Copy, Debug, PartialEq, Eq, Hash)]
+struct Few(u8);
+
+impl Position for Few {
+    ghost use Rattle.std.specs.Prelude.{◌≡◌, ◌≤◌, ◌&&◌, None, Some, nat_le, if◌then◌else◌};
+    ghost use Rattle.std.proofs.Common.{rules};
+    ghost use Rattle.std.proofs.lemmas.Grind.{common_steps};
+
+    ghost last_position = { 3 };
+
+    ghost at_position = { λ n. if nat_le 1 n && nat_le n 3 then Some (record { 0 = n }) else None };
+
+    ghost position_of = { λ key. if nat_le 1 key.0 && nat_le key.0 3 then Some key.0 else None };
+
+    fn at(n: u64) -> Option<Self> {
+        if n == 0 || n > 3 {
+            None
+        } else {
+            Some(Few(n as u8))
+        }
+    }
+
+    fn position(&self) -> Option<u64> {
+        if self.0 == 0 || self.0 > 3 {
+            None
+        } else {
+            Some(self.0 as u64)
+        }
+    }
+
+    ghost equal_is_same = { Prim.search rules };
+
+    ghost numbered = { Prim.search (rules, common_steps) };
+
+    ghost inverse = { Prim.search (rules, common_steps) };
+}
+
+#[test]
+fn the_border_ends_at_the_last_position(rt: HostRuntime) {
+    let mut table = Table::new(rt.alloc());
+    for (key, border) in [
+        (Few(4), 0),
+        (Few(2), 0),
+        (Few(3), 0),
+        (Few(1), 3),
+        (Few(0), 3),
+    ] {
+        assert!(rt; table.set(key, 1).is_ok(), "{key:?}");
+        assert_eq!(rt; table.border(), border, "after {key:?}");
+    }
+    assert_eq!(rt; table.next(Some(&Few(3))), Ok(Some((&Few(1), &1))));
+}
+
+// How many of the bits from the lowest on are set before the first that isn't.
+fn first_gap(bits: u64) -> u64 {
+    let mut count = 0u64;
+    for bit in 0..63u64 {
+        if bits >> bit & 1 == 0 {
+            break;
+        }
+        count = bit + 1;
+    }
+    count
+}
+
+// Fills the seven positions behind `before`, all of which are empty, in the order of this number, and
+// says whether the border was right after each.
+fn fills_in_order(
+    alloc: Global,
+    table: &mut Table<Key, u32>,
+    before: u32,
+    order: usize,
+) -> Result<bool, AllocError> {
+    let mut left = Vec::new(alloc);
+    for n in 0..7u64 {
+        left.push(n)?;
+    }
+    let mut order = order;
+    let mut filled = 0u64;
+    let mut right = true;
+    for _ in 0..7 {
+        let count = left.len();
+        if count == 0 {
+            break;
+        }
+        let n = left.remove(order % count) % 7;
+        order /= count;
+        filled |= 1 << n;
+        right = right
+            && took(table, Step::Set(Whole(before as i64 + n as i64 + 1), 1))
+            && table.border() == before as u64 + first_gap(filled).min(7);
+    }
+    Ok(right)
+}
+
+#[test]
+fn gaps_close_in_every_order(rt: HostRuntime) -> Result<(), Fail> {
+    for before in [0u32, 60] {
+        for order in 0..5_040 {
+            let mut table = Table::new(rt.alloc());
+            for n in 0..before {
+                assert!(rt; took(&mut table, Step::Set(Whole(n as i64 + 1), 1)), "{n}");
+            }
+            assert!(rt;
+                fills_in_order(rt.alloc(), &mut table, before, order)?,
+                "{before}: {order}"
+            );
+            for n in 0..7 {
+                table.clear_key(&Whole(before as i64 + n + 1));
+            }
+            assert_eq!(rt; table.border(), before as u64);
+            assert!(rt;
+                fills_in_order(rt.alloc(), &mut table, before, order)?,
+                "{before}: {order} again"
+            );
+        }
+    }
+    Ok(())
+}
+
+// Keys that are refused once where a request for memory is.
+#[test]
+fn a_refused_set_changes_nothing(rt: HostRuntime) -> Result<(), Fail> {
+    let mut pairs = Vec::with_capacity(rt.alloc(), 60)?;
+    let mut table = Table::new(rt.alloc());
+    for n in 0..60i64 {
+        let key = match n % 4 {
+            0 => Whole(n * 1_000),
+            1 => Text(n as u32),
+            _ => Whole(n),
+        };
+        let step = Step::Set(key, 1);
+        if !took(&mut table, step) {
+            assert!(rt; walks_as(&table, &pairs), "{step:?}");
+            assert_eq!(rt; table.border(), plain_border(&pairs), "{step:?}");
+            assert!(rt; took(&mut table, step), "{step:?}");
+        }
+        took_plainly(&mut pairs, step)?;
+        assert!(rt; walks_as(&table, &pairs), "{step:?}");
+    }
     Ok(())
 }
 
