@@ -1,0 +1,37 @@
+#!/usr/bin/env bash
+# Times a table beside Lua 5.1's at 100,000 and at 1,000,000 keys, each workload's least time of several runs. Fails where
+# a table takes over one and a half times Lua's time, or ten times the keys over twelve times as long.
+#
+# Run it on a machine that does nothing else: at 1,000,000 keys a table is larger than most caches, which other work empties.
+#
+# usage: bench/table/run.sh [FOLDER]    FOLDER keeps what was built, for the next run
+set -euo pipefail
+
+bench=$(dirname -- "$(readlink -f -- "${BASH_SOURCE[0]}")")
+# shellcheck source=bench/lay.sh
+source "$bench/../lay.sh"
+
+choose_folder "$@"
+command -v lua5.1 >/dev/null || complain 125 "lua5.1, Debian's package of Lua 5.1, isn't on PATH"
+lay 'table_bench: lua_table anyhow' love_base lua_table
+slot rt run -- 1 1 >"$folder/build.log" 2>&1 || {
+    cat "$folder/build.log"
+    exit 1
+}
+
+# Lines of the count, the workload, the table's time and Lua's.
+both() { # COUNT RUNS
+    paste -d ' ' <(./out/table_bench "$1" "$2") <(lua5.1 "$bench/beside.lua" "$1" "$2") |
+        awk -v count="$1" '$1 != $3 { exit 1 } { print count, $1, $2, $4 }'
+}
+
+{
+    both 100000 10
+    both 1000000 5
+} | awk '
+    { ratio = $3 / $4 }
+    { growth = ($2 in before) ? $3 / before[$2] : 0; before[$2] = $3 }
+    { late = ratio > 1.5 || growth > 12; over = over || late }
+    { printf "%8d %-13s %9.3f ms, in Lua %9.3f ms: %5.2f times%s%s\n", $1, $2, $3 / 1e6, $4 / 1e6, ratio,
+        growth ? sprintf(", grown %4.1f times", growth) : "", late ? "  FAIL" : "" }
+    END { exit over }'
