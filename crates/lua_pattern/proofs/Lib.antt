@@ -1,0 +1,5 @@
+pub mod SetLemmas
+pub mod Fits
+pub mod Once
+pub mod ReadsLemmas
+pub mod WaysLemmas

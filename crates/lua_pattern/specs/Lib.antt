@@ -1,0 +1,7 @@
+pub mod Class
+pub mod Element
+pub mod Found
+pub mod Reading
+pub mod Tree
+pub mod Walk
+pub mod Ways
