@@ -11,5 +11,3 @@ pub use channel::Channel;
 pub use entry::{Change, Entry};
 pub use fault::PutFault;
 
-#[cfg(test)]
-mod tests;

@@ -1,6 +1,0 @@
-use Rattle.std.proofs.Common.{◌+◌}
-use Rattle.channel_core.specs.Lawful.{NumbersBelow}
-use Rattle.channel_core.proofs.tests.filled.Given as goal
-
-abbrev pub invariant-loop-i : goal.invariant-loop-i
-invariant-loop-i l = NumbersBelow (l.i + 1) l.channel
