@@ -15,7 +15,7 @@ use Rattle.variant.specs.declared.reply.Reply.{Reply}
 use Rattle.channel_core.specs.History.{sent, received, queue, front, holder}
 use Rattle.channel_core.specs.Lawful.{entry_limit, IsAdmitted}
 use Rattle.channel_core.specs.Answers.{Answer, only, adds, with_room, pushed, popped, peeked, cleared, answer, answer_within, holds, keeps_out}
-use Rattle.channel_core.specs.Calls.{peek_answer}
+use Rattle.channel_core.specs.Calls.{Answers, peek_answer}
 
 -- who is admitted isn't kept out
 let_in : (held : Option ℕ) (state : ℕ) → IfSome held (λ other. other ≡ state) → keeps_out held state ≡ false
@@ -38,3 +38,16 @@ peeked-front h = by_queue (queue h)
     by_queue : (q : List Variant) → peeked q ≡ peek_answer (slice_get q 0)
     by_queue [] = refl
     by_queue (m ∷ ms) = refl
+
+pub Answers-peek : (channel state : ℕ) (h : List Entry) (found : Option Variant) → IsAdmitted h state → found ≡ front h → Answers (Peek channel) state h (peek_answer found)
+Answers-peek channel state h found admitted same = by_found found same
+  where
+    given : (depth : ℕ) → answer (Asked (Peek channel)) state depth h ≡ peek_answer (front h)
+    given depth = answer-admitted (Asked (Peek channel)) state depth h admitted ∙ peeked-front h
+
+    by_found : (found : Option Variant) → found ≡ front h → Answers (Peek channel) state h (peek_answer found)
+    by_found None same = λ depth. given depth ∙ ap peek_answer (sym same)
+    by_found (Some message) same = λ depth. given depth ∙ ap peek_answer (sym same)
+
+pub answer-push : (channel : ℕ) (message : Variant) (state depth : ℕ) (h : List Entry) → IsAdmitted h state → length h < entry_limit → answer (Asked (Push channel message)) state depth h ≡ adds (Id (sent h + 1)) (Put message)
+answer-push channel message state depth h admitted below = answer-admitted (Asked (Push channel message)) state depth h admitted ∙ with_room-below h (Id (sent h + 1)) (Put message) below

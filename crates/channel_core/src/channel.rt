@@ -199,16 +199,17 @@ impl Channel {
         ensures answer { (channel : ℕ) →
             Answers (Ask.Clear channel) by.state self.old (wipe_answer result) }
     {
-        if self.peek().is_none() {
+        let Some(_) = self.peek() else {
             return Ok(None);
-        }
+        };
+        let all = self.sent();
         if self.is_full() {
             return Err(PutFault::Full);
         }
         self.history.reserve(ROOM)?;
         let what = Change::Clear;
         let place = append(&mut self.history, Entry { by, what });
-        self.taken = self.puts.len() as u32;
+        self.taken = all;
         Ok(Some(place))
     }
 

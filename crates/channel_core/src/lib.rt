@@ -10,4 +10,3 @@ mod fault;
 pub use channel::Channel;
 pub use entry::{Change, Entry};
 pub use fault::PutFault;
-
