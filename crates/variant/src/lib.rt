@@ -17,7 +17,7 @@ pub use ask::Ask;
 pub use end_kind::EndKind;
 pub use event::{Event, Sent};
 pub use fitting::fits;
-pub use message::Variant;
+pub use message::{Variant, copy_all};
 pub use reply::{Refusal, Reply};
 pub use source::Source;
 pub use state_log::StateLog;

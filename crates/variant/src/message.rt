@@ -49,6 +49,21 @@ impl Variant {
     }
 }
 
+/// Equal messages, in the same order, in time linear in all of them together.
+///
+/// # Errors
+///
+/// [`Memory`] where there is no room for the copies.
+pub fn copy_all(alloc: Global, messages: &List<Variant>) -> Result<List<Variant>, Memory>
+    ensures { IfOk result (λ copies. copies ≡ messages.now) }
+{
+    let mut copies = Vec::new(alloc);
+    for message in messages.as_slice() {
+        copies.push(message.copy(alloc)?)?;
+    }
+    Ok(List::from_vec(copies))
+}
+
 // Equal pairs, in the same order.
 #[cycle(copy)]
 fn copy_pairs(
