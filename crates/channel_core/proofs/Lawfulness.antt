@@ -1,5 +1,6 @@
 -- Which entries keep a history lawful, and what every lawful history has.
-use Rattle.std.proofs.Common.{◌≡◌, ◌≢◌, ◌↔◌, ℕ, ◌+◌, ◌<◌, ◌≤◌, Bool, false, IsTrue, List, [], ◌∷◌, ◌++◌, length, Some, None, refl, sym, ap, subst, ◌∙◌, inl, inr, arith, append-nil, append_assoc, length-append}
+use Rattle.std.proofs.Common.{◌≡◌, ◌≢◌, ◌↔◌, ℕ, ◌+◌, ◌<◌, ◌≤◌, Bool, false, IsTrue, List, [], ◌∷◌, ◌++◌, length, Option, Some, None, refl, sym, ap, subst, ◌∙◌, inl, inr, arith, append-nil, append_assoc, length-append}
+use Rattle.std.specs.Prelude.{IfSome}
 use Rattle.std.proofs.lemmas.Bool.{cases_lt, false≢true}
 use Rattle.std.proofs.lemmas.List.{same_from_push}
 use Rattle.std.proofs.lemmas.List.Elements.{All-nil, All-push, All-weaker}
@@ -10,7 +11,7 @@ use Rattle.channel_core.specs.declared.entry.Entry.{Entry}
 use Rattle.channel_core.specs.declared.entry.Change.{Change}
 use Rattle.channel_core.specs.declared.entry.Change.TheVariants.{Put, Take, Clear, Enter, Leave}
 use Rattle.channel_core.specs.History.{Counts, counts_after, counts, sent, received, holder, holder_after, leave_by}
-use Rattle.channel_core.specs.Lawful.{entry_limit, FindsMessage, FindsSection, FindsRoom, IsLater, NumbersBelow, MayFollow, HasMessages, IsLawful}
+use Rattle.channel_core.specs.Lawful.{entry_limit, FindsMessage, FindsSection, FindsRoom, IsAdmitted, IsLater, NumbersBelow, MayFollow, HasMessages, IsLawful}
 use Rattle.channel_core.proofs.Histories.{counts-push, holder-push, waits-lt}
 
 pub HasMessages-lawful : (h : List Entry) → IsLawful h → HasMessages h
@@ -79,3 +80,7 @@ NumbersBelow-weaker h n m below rises = All-weaker (λ (e : Entry). e.by.number 
 
 pub NumbersBelow-push : (h : List Entry) (e : Entry) (n : ℕ) → NumbersBelow n h → e.by.number < n → NumbersBelow n (h ++ e ∷ [])
 NumbersBelow-push h e n below here = All-push (λ (e : Entry). e.by.number < n) h e below here
+
+-- where no state holds the Channel, each is admitted
+pub IsAdmitted-free : (h : List Entry) (state : ℕ) → holder h ≡ None → IsAdmitted h state
+IsAdmitted-free h state free = let P : Option ℕ → Type 0 = λ held. IfSome held (λ other. other ≡ state) in subst P (sym free) tt

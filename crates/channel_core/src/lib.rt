@@ -10,3 +10,6 @@ mod fault;
 pub use channel::Channel;
 pub use entry::{Change, Entry};
 pub use fault::PutFault;
+
+#[cfg(test)]
+mod tests;

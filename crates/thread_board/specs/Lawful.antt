@@ -10,6 +10,10 @@ use Rattle.thread_board.specs.Answers.{Answer, IsAnswer}
 abbrev pub IsLater : List BoardEntry → Stamp → Type 0
 IsLater before by = All (λ e. e.by.state ≡ by.state → e.by.number < by.number) before
 
+-- entries whose numbers are all below n, whatever their states
+abbrev pub NumbersBelow : ℕ → List BoardEntry → Type 0
+NumbersBelow n h = All (λ e. e.by.number < n) h
+
 -- an entry that may follow these ones: that of some deed of its state
 pub record MayFollow (workers : ℕ) (before : List BoardEntry) (e : BoardEntry) : Type 0 where
   pub deed : Deed

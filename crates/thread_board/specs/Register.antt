@@ -1,5 +1,5 @@
 -- What stands on the board after a history.
-use Rattle.std.specs.Prelude.{◌≡◌, ℕ, zero, suc, ◌+◌, ◌-◌, ◌≤◌, nat_eq, nat_le, Bool, true, false, not, ◌&&◌, if◌then◌else◌, List, [], ◌∷◌, ◌++◌, drop, fold, length, count_by, is_some, slice_get, slice_set, Option, Some, None, IfSome}
+use Rattle.std.specs.Prelude.{◌≡◌, ℕ, zero, suc, ◌+◌, ◌-◌, ◌≤◌, nat_eq, nat_le, Bool, true, false, not, ◌&&◌, if◌then◌else◌, List, [], ◌∷◌, ◌++◌, drop, fold, length, is_some, slice_get, slice_set, Option, Some, None, IfSome}
 use Rattle.std.specs.Cmp.Lexicographic.{pointwise}
 use Rattle.std.specs.Option.{option_and_then, option_map_or}
 use Rattle.variant.specs.End.{end_text}
@@ -44,27 +44,32 @@ abbrev pub jobs_of : Option Thread → ℕ → ℕ → List Variant → List Job
 jobs_of None state thread args = []
 jobs_of (Some made) state thread args = record { state = state; thread = thread; source = made.source; args = args } ∷ []
 
+-- the board after the end of a state, by what that state is
+abbrev pub ended_as : Register → ℕ → Option Started → Register
+ended_as r by None = record r { entries = r.entries + 1 }
+ended_as r by (Some state) = record r {
+  entries = r.entries + 1;
+  threads = change_thread r.threads state.thread None (Some r.entries);
+  states = slice_set r.states (by - 1) (record { thread = state.thread; ended = true });
+}
+
+-- the board after a start, with these new jobs
+abbrev pub started_as : Register → ℕ → ℕ → List Job → Register
+started_as r state thread jobs = record r {
+  entries = r.entries + 1;
+  threads = change_thread r.threads thread (Some state) None;
+  states = r.states ++ record { thread = thread; ended = false } ∷ [];
+  waiting = r.waiting ++ jobs;
+}
+
 -- the board after one more change, by a state
 abbrev pub after_change : Register → ℕ → BoardChange → Register
 after_change r by (Name channel name) = record r { entries = r.entries + 1; channels = r.channels + 1; names = r.names ++ (name, channel) ∷ [] }
 after_change r by (NewChannel channel) = record r { entries = r.entries + 1; channels = r.channels + 1 }
 after_change r by (NewThread thread source) = record r { entries = r.entries + 1; threads = r.threads ++ record { source = source; runs = None; ended = None } ∷ [] }
-after_change r by (Start state thread args) = record r {
-  entries = r.entries + 1;
-  threads = change_thread r.threads thread (Some state) None;
-  states = r.states ++ record { thread = thread; ended = false } ∷ [];
-  waiting = r.waiting ++ jobs_of (numbered r.threads thread) state thread args;
-}
+after_change r by (Start state thread args) = started_as r state thread (jobs_of (numbered r.threads thread) state thread args)
 after_change r by (Begin worker) = record r { entries = r.entries + 1; waiting = drop 1 r.waiting; begun = r.begun + 1 }
-after_change r by (End end) = ended_by (numbered r.states by)
-  where
-    ended_by : Option Started → Register
-    ended_by None = record r { entries = r.entries + 1 }
-    ended_by (Some state) = record r {
-      entries = r.entries + 1;
-      threads = change_thread r.threads state.thread None (Some r.entries);
-      states = slice_set r.states (by - 1) (record { thread = state.thread; ended = true });
-    }
+after_change r by (End end) = ended_as r by (numbered r.states by)
 after_change r by MainEnd = record r { entries = r.entries + 1; main_end = Some (r.entries + 1) }
 
 -- what stands on the board after a history, going through it from its first entry
@@ -76,9 +81,14 @@ abbrev pub channel_of : List (List ℕ × ℕ) → List ℕ → Option ℕ
 channel_of [] name = None
 channel_of (known ∷ others) name = if pointwise nat_eq name known.0 then Some known.1 else channel_of others name
 
+-- how many of these states haven't ended
+abbrev pub not_ended : List Started → ℕ
+not_ended [] = 0
+not_ended (state ∷ others) = if state.ended then not_ended others else not_ended others + 1
+
 -- how many states are started and not ended
 abbrev pub running : Register → ℕ
-running r = count_by (λ state. not state.ended) r.states
+running r = not_ended r.states
 
 -- the state of a Thread that was started and hasn't ended
 abbrev pub state_of : Register → ℕ → Option ℕ

@@ -1,11 +1,12 @@
 -- What a board keeps beside its history.
-use Rattle.std.specs.Prelude.{◌≡◌, ℕ, suc, zero, ◌+◌, ◌*◌, ◌≤◌, List, [], ◌∷◌, length, map, Option, Some, None, All, if◌then◌else◌, nat_lt, ⊤}
+use Rattle.std.specs.Prelude.{◌≡◌, ◌≢◌, ◌<◌, ℕ, suc, zero, ◌+◌, ◌*◌, ◌≤◌, List, [], ◌∷◌, length, map, Option, Some, None, All, if◌then◌else◌, nat_lt, ⊤}
 use Rattle.std.specs.Global.{Vec}
+use Rattle.variant.specs.declared.message.Variant.{Variant}
 use Rattle.thread_board.specs.declared.entry.BoardEntry.{BoardEntry}
 use Rattle.thread_board.specs.declared.job.Job.{Job}
 use Rattle.thread_board.specs.declared.place.Thread.{Thread}
 use Rattle.thread_board.specs.declared.place.Started.{Started}
-use Rattle.thread_board.specs.Register.{Register, register, running}
+use Rattle.thread_board.specs.Register.{Register, register, running, state_of, jobs_of, numbered}
 use Rattle.thread_board.specs.Lawful.{IsLawful}
 use Rattle.thread_board.specs.Answers.{channel_limit, thread_limit, start_limit}
 
@@ -47,3 +48,12 @@ pub record IsSound (workers : ℕ) (h : List BoardEntry) (r : Register) (count r
   pub active : All (λ e. e.by.state ≤ r.begun) h
   pub total : length h + running r ≡ r.channels + length r.threads + 2 * length r.states + r.begun + ended_count r.main_end
   pub spare : length h + owed workers r ≤ room
+
+-- a Thread may be started as this job: before state 0's end, where no state of it runs, and within both
+-- limits
+pub record MayStart (workers : ℕ) (r : Register) (thread : ℕ) (args : List Variant) (job : Job) : Type 0 where
+  pub goes_on : r.main_end ≡ None
+  pub idle : state_of r thread ≡ None
+  pub states_left : length r.states < start_limit
+  pub workers_left : running r ≢ workers
+  pub made : jobs_of (numbered r.threads thread) (length r.states + 1) thread args ≡ job ∷ []

@@ -1,4 +1,4 @@
-ghost use Rattle.std.specs.Prelude.{◌≡◌, ◌≢◌, ℕ, ◌+◌, ◌-◌, ◌*◌, ◌<◌, ◌≤◌, ◌^◌, ◌↔◌, [], ◌∷◌, ◌++◌, length, slice_get, vec_capacity, Option, is_some, is_none, if◌then◌else◌, true, IsSome, IsTrue, IfSome, IfNone, IfOk, OnOk, OnErr, All};
+ghost use Rattle.std.specs.Prelude.{◌≡◌, ◌≢◌, ℕ, ◌+◌, ◌-◌, ◌*◌, ◌<◌, ◌≤◌, ◌^◌, ◌↔◌, [], ◌∷◌, ◌++◌, length, slice_get, vec_capacity, Option, is_some, is_none, if◌then◌else◌, true, IsSome, IsTrue, IfSome, IfNone, IfOk, IfErr, OnOk, OnErr, All};
 ghost use Rattle.std.specs.Option.{option_copied};
 ghost use Rattle.thread_board.specs.Register.{numbered, change_thread};
 
@@ -41,6 +41,16 @@ fn thread_at(threads: &[Thread], number: u32) -> Option<&Thread>
     match number {
         0 => None,
         _ => threads.get(number as usize - 1),
+    }
+}
+
+// The state of a number, counted from 1.
+fn started_at(states: &[Started], number: u32) -> Option<&Started>
+    ensures { option_copied result ≡ numbered states.now number }
+{
+    match number {
+        0 => None,
+        _ => states.get(number as usize - 1),
     }
 }
 
@@ -122,10 +132,10 @@ impl Board {
     ghost use Rattle.variant.specs.declared.action.Deed.{Deed};
     ghost use Rattle.variant.specs.declared.reply.Reply.{Reply};
     ghost use Rattle.thread_board.specs.Answers.{answer, adds, only, words, channel_limit, thread_limit, start_limit};
-    ghost use Rattle.thread_board.specs.Calls.{Answers, channel_answer, thread_answer, started_answer};
+    ghost use Rattle.thread_board.specs.Calls.{Answers, refused, channel_answer, thread_answer, started_answer};
     ghost use Rattle.thread_board.specs.Lawful.{IsLater, IsLawful};
     ghost use Rattle.thread_board.specs.Register.{register, channel_of, running, state_of, error_of, is_working, HasBegun};
-    ghost use Rattle.thread_board.specs.Sound.{owed};
+    ghost use Rattle.thread_board.specs.Sound.{owed, MayStart};
     ghost use Rattle.thread_board.specs.View.{with_entry};
 
     /// A board without workers, which starts nothing. It takes no memory.
@@ -197,10 +207,10 @@ impl Board {
         ensures answer { Answers self.old (Ask.Name name.now) by.state (channel_answer
             (BoardChange.Name ((register self.old.history).channels + 1) name.now) result) }
     {
-        if let Some(channel) = self.names.get(name.bytes()) {
+        if let Some(channel) = self.known(name) {
             return Ok(Named {
                 place: self.history.len() as u32,
-                channel: *channel,
+                channel,
                 changed: false,
             });
         }
@@ -339,6 +349,44 @@ impl Board {
             (BoardChange.Start (length (register self.old.history).states + 1) thread args)
             result) }
     {
+        // A `?` would hide from the contract which fault it was.
+        let job = match self.job_for(thread, &args) {
+            Ok(job) => job,
+            Err(fault) => return Err(fault),
+        };
+        let owed = self.owed();
+        self.history.reserve(owed + 3)?;
+        self.states.reserve(1)?;
+        let state = job.state;
+        self.jobs.push_back(job)?;
+        let ended = false;
+        self.states.push(Started { thread, ended }).unwrap();
+        set_thread(&mut self.threads, thread, Some(state), None);
+        self.running += 1;
+        let what = BoardChange::Start {
+            state,
+            thread,
+            args,
+        };
+        let place = append(&mut self.history, BoardEntry { by, what });
+        Ok((place, state))
+    }
+
+    // The job of a Thread that may be started, or why it may not.
+    fn job_for(&self, thread: u32, args: &List<Variant>) -> Result<Job, BoardFault>
+        ensures job { IfOk result (λ job.
+            MayStart self.now.workers (register self.now.history) thread args.now job) }
+        ensures closed { (place : ℕ) → (result ≡ Err (BoardFault.Closed place))
+            ↔ ((register self.now.history).main_end ≡ Option.Some place) }
+        ensures no_such { (result ≡ Err BoardFault.NoSuchThread)
+            ↔ (((register self.now.history).main_end ≡ Option.None)
+            × (numbered (register self.now.history).threads thread ≡ Option.None)) }
+        ensures already { (state : ℕ) → (result ≡ Err (BoardFault.AlreadyRunning state))
+            ↔ (((register self.now.history).main_end ≡ Option.None)
+            × (state_of (register self.now.history) thread ≡ Option.Some state)) }
+        ensures refused { (by : ℕ) → IfErr result (λ fault.
+            Answers self.now (Ask.Start thread args.now) by (refused fault)) }
+    {
         if let Some(place) = self.main_end {
             return Err(BoardFault::Closed { place });
         }
@@ -356,30 +404,15 @@ impl Board {
                 running: self.running,
             });
         }
-        let owed = self.owed();
         let alloc = *self.history.allocator();
         let source = made.source.copy(alloc)?;
-        let copies = copy_all(alloc, &args)?;
-        self.history.reserve(owed + 3)?;
-        self.states.reserve(1)?;
-        let state = self.states.len() as u32 + 1;
-        self.jobs.push_back(Job {
-            state,
+        let args = copy_all(alloc, args)?;
+        Ok(Job {
+            state: self.states.len() as u32 + 1,
             thread,
             source,
-            args: copies,
-        })?;
-        let ended = false;
-        self.states.push(Started { thread, ended }).unwrap();
-        set_thread(&mut self.threads, thread, Some(state), None);
-        self.running += 1;
-        let what = BoardChange::Start {
-            state,
-            thread,
             args,
-        };
-        let place = append(&mut self.history, BoardEntry { by, what });
-        Ok((place, state))
+        })
     }
 
     /// The oldest job that waits, which this worker begins; `None` where none waits. Its beginning
@@ -481,6 +514,24 @@ impl Board {
         self.main_end
     }
 
+    /// Whether a state has begun, as state 0 always has: a read, which takes no memory.
+    pub fn has_begun(&self, state: u32) -> bool
+        ensures { IsTrue result ↔ HasBegun (register self.now.history) state }
+    {
+        state <= self.begun
+    }
+
+    /// Whether a state has a beginning and no end, as state 0 never has: a read, which takes no
+    /// memory.
+    pub fn is_working(&self, state: u32) -> bool
+        ensures { result ≡ is_working (register self.now.history) state }
+    {
+        match started_at(&self.states, state) {
+            Some(started) => state <= self.begun && !started.ended,
+            None => false,
+        }
+    }
+
     /// The number of workers: a read, which takes no memory.
     pub fn workers(&self) -> u32
         ensures { result ≡ self.now.workers }
@@ -497,6 +548,13 @@ impl Board {
             self.now.history }
     {
         self.history.as_slice()
+    }
+
+    // The Channel of a name that has one.
+    fn known(&self, name: &Text) -> Option<u32>
+        ensures { result ≡ channel_of (register self.now.history).names name.now }
+    {
+        self.names.get(name.bytes()).copied()
     }
 
     // How many entries must not be refused.

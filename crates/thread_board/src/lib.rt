@@ -14,3 +14,6 @@ pub use board::{Board, Named};
 pub use entry::{BoardChange, BoardEntry};
 pub use fault::BoardFault;
 pub use job::Job;
+
+#[cfg(test)]
+mod tests;
