@@ -5,7 +5,7 @@ use Rattle.std.specs.Str.Parse.{AllDigits, digits_value}
 use Rattle.love_run.specs.declared.statement.Statement.{Statement}
 use Rattle.love_run.specs.declared.statement.Statement.TheVariants.{Blank, Print, Push, PrintPop}
 use Rattle.variant.specs.declared.message.Variant.{Variant}
-use Rattle.variant.specs.declared.message.Variant.TheVariants.{Nil, Bool, Num, Bytes}
+use Rattle.variant.specs.declared.message.Variant.TheVariants.{Nil, Bool, Num, Bytes, Data, Channel, Table}
 
 -- the byte that ends a line
 abbrev pub newline : ℕ
@@ -35,12 +35,15 @@ abbrev pub IsPlain : ℕ → Type 0
 IsPlain byte = (32 ≤ byte) × (byte ≤ 126) × (byte ≢ quote) × (byte ≢ 92)
 
 -- The text spells the message as a literal: one to fourteen decimal digits that write a number, or a string
--- between quotes. No literal spells `nil`, `true` or `false`.
+-- between quotes. No literal spells any other message.
 abbrev pub SpellsLiteral : Variant → List ℕ → Type 0
 SpellsLiteral Nil text = ⊥
 SpellsLiteral (Bool truth) text = ⊥
 SpellsLiteral (Num n) text =
     (0 < length text) × (length text ≤ 14) × AllDigits 10 text × (n ≡ pos (digits_value 10 text))
+SpellsLiteral (Data content) text = ⊥
+SpellsLiteral (Channel number) text = ⊥
+SpellsLiteral (Table pairs) text = ⊥
 SpellsLiteral (Bytes bytes) text = All IsPlain bytes × (text ≡ quote ∷ (bytes ++ quote ∷ []))
 
 -- the line is a literal between these two texts

@@ -6,20 +6,24 @@ use Rattle.std.specs.Fmt.{signed_decimal}
 use Rattle.love_base.specs.Prefix.{IsPrefix, IsProperPrefix}
 use Rattle.love_base.specs.declared.stamp.Stamp.{Stamp}
 use Rattle.variant.specs.declared.message.Variant.{Variant}
-use Rattle.variant.specs.declared.message.Variant.TheVariants.{Nil, Bool, Num, Bytes}
+use Rattle.variant.specs.declared.message.Variant.TheVariants.{Nil, Bool, Num, Bytes, Data, Channel, Table}
 use Rattle.channel_core.specs.declared.entry.Entry.{Entry}
 use Rattle.channel_core.specs.History.{front, put_by, take_by}
 use Rattle.love_run.specs.declared.statement.Statement.{Statement}
 use Rattle.love_run.specs.declared.statement.Statement.TheVariants.{Blank, Print, Push, PrintPop}
 use Rattle.love_run.specs.Program.{newline}
 
--- how a message is printed: a number by its decimal digits, a string by its bytes
+-- how a message is printed: a number by its decimal digits, a string by its bytes, and any other by its
+-- kind, which no line spells
 abbrev pub shown : Variant → List ℕ
 shown Nil = codes "nil"
 shown (Bool true) = codes "true"
 shown (Bool false) = codes "false"
 shown (Num n) = signed_decimal n
 shown (Bytes bytes) = bytes
+shown (Data content) = codes "Data"
+shown (Channel number) = codes "Channel"
+shown (Table pairs) = codes "table"
 
 -- how the answer of a pop is printed: the message, or `nil` where none waits
 abbrev pub shown_answer : Option Variant → List ℕ
