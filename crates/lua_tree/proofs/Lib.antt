@@ -1,0 +1,3 @@
+pub mod Comes
+pub mod Follow
+pub mod WholeIs
