@@ -15,14 +15,11 @@ Begins ts = (more : List Tok) × (b : Block) × Spells b (ts ++ more)
 abbrev pub Every : List Tok → Tok → (Block → Type 0) → Type 0
 Every pre t P = (more : List Tok) (b : Block) → Spells b (pre ++ t ∷ more) → P b
 
--- the tokens at which a limit can be passed: `break`, `...`, a name for locals, `(` for an ambiguous call
+-- the words at which a limit can be passed: for locals a name, for the others any
 abbrev pub Tells : Limit → Word → Type 0
-Tells breaks (key w.break_) = Unit {0}
-Tells varargs (key w.dots) = Unit {0}
 Tells locals (w.name x) = Unit {0}
-Tells calls (key w.open_paren) = Unit {0}
-Tells nodes v = Unit {0}
-Tells x v = ⊥
+Tells locals v = ⊥
+Tells x v = Unit {0}
 
 -- A fault stands at the first token of the rest, or at the end: no chunk goes on with that token, or the tokens before it
 -- are none where it is the end; or every chunk that begins with the tokens up to and including it passes a limit.

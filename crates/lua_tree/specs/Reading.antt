@@ -9,12 +9,13 @@ use Rattle.lua_tree.specs.Attributes.{Limit, breaks, varargs, nodes, locals, cal
 
 -- what a rule reads
 pub data Sort : Type 0 where
-  an_expr an_args some_exprs some_fields a_func a_block a_stat some_arms some_names some_params a_target a_semi : Sort
+  an_expr an_args some_exprs some_targets some_fields a_func a_block a_stat some_arms some_names some_params a_target a_semi : Sort
 
 abbrev pub Value : Sort → Type 0
 Value an_expr = Expr
 Value an_args = ℕ × Exprs
 Value some_exprs = Exprs
+Value some_targets = Exprs
 Value some_fields = Fields
 Value a_func = Func
 Value a_block = Block
@@ -93,7 +94,7 @@ pub data Rule : Sort → Type 0 where
   last : Counts → Rule a_stat
   return_rest : ℕ → Counts → Rule a_stat
   -- {',' var}
-  more_targets : Counts → Rule some_exprs
+  more_targets : Counts → Rule some_targets
   -- ['=' explist]
   init : Counts → Rule some_exprs
   -- exp then block {elseif exp then block} [else block] end
@@ -304,12 +305,12 @@ prefix_stat_of l c e a_var = then (more_targets c) (λ es. expect w.assign free 
 prefix_stat_of l c e a_call = give (call_stat l e)
 prefix_stat_of l c e a_paren = fail
 
-abbrev pub target_of : Counts → Expr → Shape → Prog some_exprs
+abbrev pub target_of : Counts → Expr → Shape → Prog some_targets
 target_of c e a_var = then (more_targets c) (λ es. give (expr_and e es))
 target_of c e a_call = fail
 target_of c e a_paren = fail
 
-abbrev pub more_targets_of : Counts → Word → Spot → Prog some_exprs
+abbrev pub more_targets_of : Counts → Word → Spot → Prog some_targets
 more_targets_of c (key w.comma) s = take free (then (prefix targeted c) (λ e. target_of c e (shape e)))
 more_targets_of c v s = give no_exprs
 
