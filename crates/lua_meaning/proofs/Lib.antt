@@ -1,0 +1,5 @@
+pub mod Lawful
+pub mod Calling
+pub mod Evaluating
+pub mod Functions
+pub mod Runs

@@ -27,3 +27,4 @@ pub mod LoveArguments
 pub mod Love
 pub mod Running
 pub mod Run
+pub mod Laws

@@ -1,5 +1,5 @@
 -- Operators, indexing and assignment to fields (manual §2.5, §2.8), each with its handlers.
-use Rattle.std.specs.Prelude.{ℕ, ◌+◌, ℤ, pos, neg_ℤ, true, false, not, List, [], ◌∷◌, ◌++◌, length, Option, Some, None, Result, Ok, Err, if◌then◌else◌, nat_le, int_lt, int_le, codes, ⊤}
+use Rattle.std.specs.Prelude.{Bool, ℕ, ◌+◌, ℤ, pos, neg_ℤ, true, false, not, List, [], ◌∷◌, ◌++◌, length, Option, Some, None, Result, Ok, Err, if◌then◌else◌, nat_le, int_lt, int_le, codes, ⊤}
 use Rattle.lua_value.specs.Arithmetic as arithmetic
 use Rattle.lua_value.specs.declared.arithmetic.NumFault.{NumFault}
 use Rattle.lua_tree.specs.Tree.{Bytes, UnOp, BinOp}
@@ -34,6 +34,17 @@ abbrev pub shared_handler : Store → Bytes → Value → Value → Value
 shared_handler s event (table a) (table b) =
     if same (handler s (table a) event) (handler s (table b) event) then handler s (table a) event else nil
 shared_handler s event a b = nil
+
+-- the order of two numbers, and of two strings by bytes; other values have none of their own
+abbrev pub is_less : Value → Value → Option Bool
+is_less (num x) (num y) = Some (int_lt x y)
+is_less (str x) (str y) = Some (not (is_text_up_to y x))
+is_less a b = None
+
+abbrev pub is_not_greater : Value → Value → Option Bool
+is_not_greater (num x) (num y) = Some (int_le x y)
+is_not_greater (str x) (str y) = Some (is_text_up_to x y)
+is_not_greater a b = None
 
 -- every operator below stands at a line of the running function
 module _ (again : Later) (here : Here) (line : ℕ) where
@@ -105,11 +116,14 @@ module _ (again : Later) (here : Here) (line : ℕ) where
   abbrev pub unequal : Value → Value → Act Value
   unequal a b = equal a b >>= λ v. untruth v
 
+  abbrev pub less_by : Option Bool → Value → Value → Act Value
+  less_by (Some known) a b = give (flag known)
+  less_by None a b =
+      look (λ s. shared_handler s (codes "__lt") a b) >>= λ h. ask_or_fault h (order_text a b) (a ∷ b ∷ []) >>= λ v. truth v
+
   -- two numbers, or two strings by bytes; else the handler that both tables have
   abbrev pub less : Value → Value → Act Value
-  less (num x) (num y) = give (flag (int_lt x y))
-  less (str x) (str y) = give (flag (not (is_text_up_to y x)))
-  less a b = look (λ s. shared_handler s (codes "__lt") a b) >>= λ h. ask_or_fault h (order_text a b) (a ∷ b ∷ []) >>= λ v. truth v
+  less a b = less_by (is_less a b) a b
 
   abbrev pub not_greater : (handler : Value) → Value → Value → Act Value
   not_greater h a b = ask_or_fault h (order_text a b) (b ∷ a ∷ []) >>= λ v. untruth v
@@ -119,10 +133,12 @@ module _ (again : Later) (here : Here) (line : ℕ) where
   up_to_by nil a b = look (λ s. shared_handler s (codes "__lt") b a) >>= λ h. not_greater h a b
   up_to_by h a b = ask_handler h (a ∷ b ∷ []) >>= λ v. truth v
 
+  abbrev pub up_to_known : Option Bool → Value → Value → Act Value
+  up_to_known (Some known) a b = give (flag known)
+  up_to_known None a b = look (λ s. shared_handler s (codes "__le") a b) >>= λ h. up_to_by h a b
+
   abbrev pub up_to : Value → Value → Act Value
-  up_to (num x) (num y) = give (flag (int_le x y))
-  up_to (str x) (str y) = give (flag (is_text_up_to x y))
-  up_to a b = look (λ s. shared_handler s (codes "__le") a b) >>= λ h. up_to_by h a b
+  up_to a b = up_to_known (is_not_greater a b) a b
 
   -- ---- operators
 
