@@ -23,7 +23,8 @@ set_slot_lawful : (x : Bytes) (v : Value) (env : Env) (s : Slot) → Lawful 0 (s
 set_slot_lawful x v env (held old) = gives_lawful _
 set_slot_lawful x v env (cell c) = behind 0 (changes _) (gives_lawful _)
 
-set_found_lawful : (x : Bytes) (v : Value) (env : Env) (s : Option Slot) → Lawful 0 (set_found x v env s)
+set_found_lawful : (x : Bytes) (v : Value) (env : Env) (s : Option Slot) →
+    Lawful 0 (set_found x v env s)
 set_found_lawful x v env None = gives_lawful _
 set_found_lawful x v env (Some s) = set_slot_lawful x v env s
 
@@ -32,24 +33,35 @@ set_local_lawful x v env = set_found_lawful x v env (find x env)
 
 make_slot_lawful : (b : Bool) (v : Value) → Lawful 0 (make_slot b v)
 make_slot_lawful false v = gives_lawful _
-make_slot_lawful true v = followed 0 (looks (λ s. length s.cells)) (λ c. behind 0 (changes (λ s. add_cell s v)) (gives_lawful (cell c)))
+make_slot_lawful true v =
+    followed 0 (looks (λ s. length s.cells)) (λ c. behind 0 (changes (λ s. add_cell s v))
+    (gives_lawful (cell c)))
 
-pub declare_lawful : (xs captured : List Bytes) (vs : List Value) (env : Env) → Lawful 0 (declare xs captured vs env)
+pub declare_lawful : (xs captured : List Bytes) (vs : List Value) (env : Env) →
+    Lawful 0 (declare xs captured vs env)
 declare_lawful [] captured vs env = gives_lawful _
-declare_lawful (x ∷ xs) captured vs env = followed 0 (make_slot_lawful _ _) (λ s. declare_lawful xs captured _ _)
+declare_lawful (x ∷ xs) captured vs env =
+    followed 0 (make_slot_lawful _ _) (λ s. declare_lawful xs captured _ _)
 
-pub in_scope_lawful : (k : ℕ) (before : Env) (m : Act Flow) → Lawful k m → Lawful k (in_scope before m)
+pub in_scope_lawful : (k : ℕ) (before : Env) (m : Act Flow) → Lawful k m →
+    Lawful k (in_scope before m)
 in_scope_lawful k before m l = costs (k + 0) k (omega arith) (chain k 0 l (λ flow. gives_lawful _))
 
-pub go_on_lawful : (flow : Flow) (next : Env → Act Flow) → ((env : Env) → Lawful 0 (next env)) → Lawful 0 (go_on flow next)
+pub go_on_lawful : (flow : Flow) (next : Env → Act Flow) → ((env : Env) → Lawful 0 (next env)) →
+    Lawful 0 (go_on flow next)
 go_on_lawful (normal env) next h = h env
 go_on_lawful (broken env) next h = gives_lawful _
 go_on_lawful (returned vs) next h = gives_lawful _
 
-pub make_function_lawful : (file : Bytes) (f : Func) (env : Env) → Lawful 0 (make_function file f env)
-make_function_lawful file f env = followed 0 (looks (λ s. length s.functions)) (λ place. behind 0 (changes (λ s. add_closure s (record { file = file; node = f; cells = cells_of (func_names f) env }))) (gives_lawful (func place)))
+pub make_function_lawful : (file : Bytes) (f : Func) (env : Env) →
+    Lawful 0 (make_function file f env)
+make_function_lawful file f env =
+    followed 0 (looks (λ s. length s.functions)) (λ place. behind 0 (changes (λ s. add_closure s
+    (record { file = file; node = f; cells = cells_of (func_names f) env }))) (gives_lawful
+    (func place)))
 
-pub fault_lawful : {A : Type 0} (here : Here) (line : ℕ) (text : Bytes) → Lawful 0 (fault_at {A = A} here line text)
+pub fault_lawful : {A : Type 0} (here : Here) (line : ℕ) (text : Bytes) →
+    Lawful 0 (fault_at {A = A} here line text)
 fault_lawful here line text = raises_lawful _
 
 pub results_lawful : (k : ℕ) (m : Act Flow) → Lawful k m → Lawful k (results m)
@@ -62,20 +74,26 @@ Paid again = (t : Task) → Lawful 2 (again t)
 module _ (again : Later) (h : Paid again) where
   -- ---- calls
 
-  pub enter_lawful : (at : Option Place) (calls : Calls) (callee : Callee) (args : List Value) → Lawful 0 (enter again at calls callee args)
-  enter_lawful at calls callee args = ticked 0 (either 2 _ (results_lawful 2 _ (h _)) (costs 0 2 (omega arith) (raises_lawful _)))
+  pub enter_lawful : (at : Option Place) (calls : Calls) (callee : Callee) (args : List Value) →
+      Lawful 0 (enter again at calls callee args)
+  enter_lawful at calls callee args =
+      ticked 0 (either 2 _ (results_lawful 2 _ (h _)) (costs 0 2 (omega arith) (raises_lawful _)))
 
-  enter_called_lawful : (at : Option Place) (calls : Calls) (f : Value) (c : Option (Callee × List Value)) → Lawful 0 (enter_called again at calls f c)
+  enter_called_lawful : (at : Option Place) (calls : Calls) (f : Value) (c : Option
+      (Callee × List Value)) → Lawful 0 (enter_called again at calls f c)
   enter_called_lawful at calls f None = raises_lawful _
   enter_called_lawful at calls f (Some c) = enter_lawful at calls c.0 c.1
 
-  pub call_lawful : (at : Option Place) (calls : Calls) (f : Value) (args : List Value) → Lawful 0 (call again at calls f args)
+  pub call_lawful : (at : Option Place) (calls : Calls) (f : Value) (args : List Value) →
+      Lawful 0 (call again at calls f args)
   call_lawful at calls f args = followed 0 (looks _) (λ c. enter_called_lawful at calls f c)
 
-  pub call_at_lawful : (here : Here) (line : ℕ) (f : Value) (args : List Value) → Lawful 0 (call_at again here line f args)
+  pub call_at_lawful : (here : Here) (line : ℕ) (f : Value) (args : List Value) →
+      Lawful 0 (call_at again here line f args)
   call_at_lawful here line f args = call_lawful (place here line) here.calls f args
 
-  pub call_back_lawful : (calls : Calls) (f : Value) (args : List Value) → Lawful 0 (call_back again calls f args)
+  pub call_back_lawful : (calls : Calls) (f : Value) (args : List Value) →
+      Lawful 0 (call_back again calls f args)
   call_back_lawful calls f args = call_lawful None calls f args
 
   -- ---- operators
@@ -84,7 +102,8 @@ module _ (again : Later) (h : Paid again) where
     ask_lawful : (f : Value) (args : List Value) → Lawful 0 (ask_handler again here line f args)
     ask_lawful f args = ones 0 (call_at_lawful here line f args)
 
-    ask_or_fault_lawful : (f : Value) (text : Bytes) (args : List Value) → Lawful 0 (ask_or_fault again here line f text args)
+    ask_or_fault_lawful : (f : Value) (text : Bytes) (args : List Value) →
+        Lawful 0 (ask_or_fault again here line f text args)
     ask_or_fault_lawful nil text args = fault_lawful here line text
     ask_or_fault_lawful f text args = ask_lawful f args
 
@@ -92,18 +111,21 @@ module _ (again : Later) (h : Paid again) where
     exact_lawful (Ok z) = gives_lawful _
     exact_lawful (Err e) = fault_lawful here line _
 
-    by_numbers_lawful : (op : ℤ → ℤ → Result ℤ NumFault) (event : Bytes) (a b : Value) (x y : Option ℤ) → Lawful 0 (by_numbers again here line op event a b x y)
+    by_numbers_lawful : (op : ℤ → ℤ → Result ℤ NumFault) (event : Bytes) (a b : Value)
+        (x y : Option ℤ) → Lawful 0 (by_numbers again here line op event a b x y)
     by_numbers_lawful op event a b (Some x) (Some y) = exact_lawful _
     by_numbers_lawful op event a b x y = search (followed, looks, ask_or_fault_lawful)
 
-    calculate_lawful : (op : ℤ → ℤ → Result ℤ NumFault) (event : Bytes) (a b : Value) → Lawful 0 (calculate again here line op event a b)
+    calculate_lawful : (op : ℤ → ℤ → Result ℤ NumFault) (event : Bytes) (a b : Value) →
+        Lawful 0 (calculate again here line op event a b)
     calculate_lawful op event a b = by_numbers_lawful op event a b _ _
 
     by_number_lawful : (v : Value) (x : Option ℤ) → Lawful 0 (by_number again here line v x)
     by_number_lawful v (Some n) = gives_lawful _
     by_number_lawful v None = search (followed, looks, ask_or_fault_lawful)
 
-    by_texts_lawful : (a b : Value) (x y : Option Bytes) → Lawful 0 (by_texts again here line a b x y)
+    by_texts_lawful : (a b : Value) (x y : Option Bytes) →
+        Lawful 0 (by_texts again here line a b x y)
     by_texts_lawful a b (Some x) (Some y) = either 0 _ (gives_lawful _) (fault_lawful here line _)
     by_texts_lawful a b x y = search (followed, looks, ask_or_fault_lawful)
 
@@ -119,7 +141,8 @@ module _ (again : Later) (h : Paid again) where
     untruth_lawful v = gives_lawful _
 
     equal_by_lawful : (f : Value) (args : List Value) → Lawful 0 (equal_by again here line f args)
-    equal_by_lawful f args = either 0 _ (followed 0 (ask_lawful f args) (λ v. truth_lawful v)) (gives_lawful _)
+    equal_by_lawful f args =
+        either 0 _ (followed 0 (ask_lawful f args) (λ v. truth_lawful v)) (gives_lawful _)
 
     equal_lawful : (a b : Value) → Lawful 0 (equal again here line a b)
     equal_lawful a b = search (either, followed, looks, equal_by_lawful, gives_lawful)
@@ -138,7 +161,8 @@ module _ (again : Later) (h : Paid again) where
     up_to_by_lawful nil a b = followed 0 (looks _) (λ f. not_greater_lawful f a b)
     up_to_by_lawful f a b = search (followed, ask_lawful, truth_lawful)
 
-    up_to_known_lawful : (x : Option Bool) (a b : Value) → Lawful 0 (up_to_known again here line x a b)
+    up_to_known_lawful : (x : Option Bool) (a b : Value) →
+        Lawful 0 (up_to_known again here line x a b)
     up_to_known_lawful (Some known) a b = gives_lawful _
     up_to_known_lawful None a b = search (followed, looks, up_to_by_lawful)
 
@@ -167,7 +191,8 @@ module _ (again : Later) (h : Paid again) where
     binary_lawful BinOp.mod_ a b = calculate_lawful _ _ a b
     binary_lawful BinOp.pow a b = calculate_lawful _ _ a b
 
-    pub operate_lawful : (op : BinOp) (l r : Act Value) → Lawful 0 l → Lawful 0 r → Lawful 0 (operate again here line op l r)
+    pub operate_lawful : (op : BinOp) (l r : Act Value) → Lawful 0 l → Lawful 0 r →
+        Lawful 0 (operate again here line op l r)
     operate_lawful BinOp.and_ l r x y = followed 0 x (λ a. either 0 _ y (gives_lawful _))
     operate_lawful BinOp.or_ l r x y = followed 0 x (λ a. either 0 _ (gives_lawful _) y)
     operate_lawful op l r x y = followed 0 x (λ a. followed 0 y (λ b. binary_lawful op a b))

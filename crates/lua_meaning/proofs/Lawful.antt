@@ -33,7 +33,8 @@ pub record Step (k : ℕ) {A : Type 0} (w : World) (e : Ends A) : Type 0 where
   pub ticks : (left e).ticks ≤ w.ticks
   pub output : IsPrefix w.output (left e).output
   pub asks : IsPrefix w.asks (left e).asks
-  pub cost : length (left e).asks + pending e + 2 * (left e).ticks ≤ k + (length w.asks + 2 * w.ticks)
+  pub cost : length (left e).asks + pending e + 2 * (left e).ticks ≤ k +
+      (length w.asks + 2 * w.ticks)
 
 abbrev pub with_more : World → List Reply → World
 with_more w rs = record w { replies = w.replies ++ rs }
@@ -54,30 +55,43 @@ pub record Lawful (k : ℕ) {A : Type 0} (m : Act A) : Type 0 where
 
 -- ---- one act behind another
 
-step_then : (j k : ℕ) {A B : Type 0} (w : World) (e : Ends A) (f : A → Act B) → Step j w e → ((a : A) → Lawful k (f a)) → Step (j + k) w (e >>> f)
+step_then : (j k : ℕ) {A B : Type 0} (w : World) (e : Ends A) (f : A → Act B) → Step j w e →
+    ((a : A) → Lawful k (f a)) → Step (j + k) w (e >>> f)
 step_then j k w (gives a v) f s h = let t = (h a).step v in record {
   ticks = omega (arith, s.ticks, t.ticks);
   output = prefix_on w.output v.output (left (f a v)).output s.output t.output;
   asks = prefix_on w.asks v.asks (left (f a v)).asks s.asks t.asks;
   cost = omega (arith, s.cost, t.cost);
 }
-step_then j k w (fails v x) f s h = record { ticks = s.ticks; output = s.output; asks = s.asks; cost = omega (arith, s.cost) }
-step_then j k w (out_of_steps x) f s h = record { ticks = s.ticks; output = s.output; asks = s.asks; cost = omega (arith, s.cost) }
-step_then j k w (needs ask x) f s h = record { ticks = s.ticks; output = s.output; asks = s.asks; cost = omega (arith, s.cost) }
+step_then j k w (fails v x) f s h =
+    record { ticks = s.ticks; output = s.output; asks = s.asks; cost = omega (arith, s.cost) }
+step_then j k w (out_of_steps x) f s h =
+    record { ticks = s.ticks; output = s.output; asks = s.asks; cost = omega (arith, s.cost) }
+step_then j k w (needs ask x) f s h =
+    record { ticks = s.ticks; output = s.output; asks = s.asks; cost = omega (arith, s.cost) }
 
-onward_then : (k : ℕ) {A B : Type 0} (w : World) (e : Ends A) (f : A → Act B) → Onward w (left e) → ((a : A) → Lawful k (f a)) → Onward w (left (e >>> f))
-onward_then k w (gives a v) f o h = let t = (h a).step v in (prefix_on w.asks v.asks (left (f a v)).asks o.0 t.asks, prefix_on w.output v.output (left (f a v)).output o.1 t.output)
+onward_then : (k : ℕ) {A B : Type 0} (w : World) (e : Ends A) (f : A → Act B) → Onward w (left e) →
+    ((a : A) → Lawful k (f a)) → Onward w (left (e >>> f))
+onward_then k w (gives a v) f o h =
+    let t = (h a).step v in (
+      prefix_on w.asks v.asks (left
+          (f a v)).asks o.0 t.asks,
+      prefix_on w.output v.output (left (f a v)).output o.1 t.output,
+    )
 onward_then k w (fails v x) f o h = o
 onward_then k w (out_of_steps x) f o h = o
 onward_then k w (needs ask x) f o h = o
 
-extended_then : (k : ℕ) (rs : List Reply) {A B : Type 0} (e e' : Ends A) (f : A → Act B) → Extended rs e e' → ((a : A) → Lawful k (f a)) → Extended rs (e >>> f) (e' >>> f)
-extended_then k rs (gives a v) e' f x h = subst (λ y. Extended rs (f a v) (y >>> f)) (sym x) ((h a).more v rs)
+extended_then : (k : ℕ) (rs : List Reply) {A B : Type 0} (e e' : Ends A) (f : A → Act B) →
+    Extended rs e e' → ((a : A) → Lawful k (f a)) → Extended rs (e >>> f) (e' >>> f)
+extended_then k rs (gives a v) e' f x h =
+    subst (λ y. Extended rs (f a v) (y >>> f)) (sym x) ((h a).more v rs)
 extended_then k rs (fails v w) e' f x h = ap (λ y. y >>> f) x
 extended_then k rs (out_of_steps w) e' f x h = ap (λ y. y >>> f) x
 extended_then k rs (needs ask w) e' f x h = onward_then k w e' f x h
 
-pub chain : (j k : ℕ) {A B : Type 0} {m : Act A} {f : A → Act B} → Lawful j m → ((a : A) → Lawful k (f a)) → Lawful (j + k) (m >>= f)
+pub chain : (j k : ℕ) {A B : Type 0} {m : Act A} {f : A → Act B} → Lawful j m → ((a : A) →
+    Lawful k (f a)) → Lawful (j + k) (m >>= f)
 chain j k {A} {B} {m} {f} l h = record {
   step = λ w. step_then j k w (m w) f (l.step w) h;
   more = λ w rs. extended_then k rs (m w) (m (with_more w rs)) f (l.more w rs) h;
@@ -86,15 +100,23 @@ chain j k {A} {B} {m} {f} l h = record {
 -- what costs less costs no more
 pub costs : (j k : ℕ) {A : Type 0} {m : Act A} → j ≤ k → Lawful j m → Lawful k m
 costs j k le l = record {
-  step = λ w. let s = l.step w in record { ticks = s.ticks; output = s.output; asks = s.asks; cost = omega (arith, le, s.cost) };
+  step = λ w. let s = l.step w in record {
+    ticks =
+        s.ticks;
+    output = s.output;
+    asks = s.asks;
+    cost = omega (arith, le, s.cost);
+  };
   more = l.more;
 }
 
 -- an act without cost, and what is behind it
-pub followed : (k : ℕ) {A B : Type 0} {m : Act A} {f : A → Act B} → Lawful 0 m → ((a : A) → Lawful k (f a)) → Lawful k (m >>= f)
+pub followed : (k : ℕ) {A B : Type 0} {m : Act A} {f : A → Act B} → Lawful 0 m → ((a : A) →
+    Lawful k (f a)) → Lawful k (m >>= f)
 followed k {A} {B} {m} {f} l h = costs (0 + k) k (omega arith) (chain 0 k l h)
 
-pub either : (k : ℕ) {A : Type 0} (c : Bool) {a b : Act A} → Lawful k a → Lawful k b → Lawful k (if c then a else b)
+pub either : (k : ℕ) {A : Type 0} (c : Bool) {a b : Act A} → Lawful k a → Lawful k b →
+    Lawful k (if c then a else b)
 either k true x y = x
 either k false x y = y
 
@@ -103,38 +125,75 @@ either k false x y = y
 -- an act that gives something and leaves ticks, asks and replies
 pub gives_lawful : {A : Type 0} (a : A) → Lawful 0 (give a)
 gives_lawful a = record {
-  step = λ w. record { ticks = omega arith; output = same_prefix w.output; asks = same_prefix w.asks; cost = omega arith };
+  step = λ w. record {
+    ticks =
+        omega arith;
+    output = same_prefix w.output;
+    asks = same_prefix w.asks;
+    cost = omega arith;
+  };
   more = λ w rs. refl;
 }
 
 pub raises_lawful : {A : Type 0} (v : Value) → Lawful 0 (raise {A = A} v)
 raises_lawful v = record {
-  step = λ w. record { ticks = omega arith; output = same_prefix w.output; asks = same_prefix w.asks; cost = omega arith };
+  step = λ w. record {
+    ticks =
+        omega arith;
+    output = same_prefix w.output;
+    asks = same_prefix w.asks;
+    cost = omega arith;
+  };
   more = λ w rs. refl;
 }
 
 pub looks : {A : Type 0} (f : Store → A) → Lawful 0 (look f)
 looks f = record {
-  step = λ w. record { ticks = omega arith; output = same_prefix w.output; asks = same_prefix w.asks; cost = omega arith };
+  step = λ w. record {
+    ticks =
+        omega arith;
+    output = same_prefix w.output;
+    asks = same_prefix w.asks;
+    cost = omega arith;
+  };
   more = λ w rs. refl;
 }
 
 pub changes : (f : Store → Store) → Lawful 0 (change f)
 changes f = record {
-  step = λ w. record { ticks = omega arith; output = same_prefix w.output; asks = same_prefix w.asks; cost = omega arith };
+  step = λ w. record {
+    ticks =
+        omega arith;
+    output = same_prefix w.output;
+    asks = same_prefix w.asks;
+    cost = omega arith;
+  };
   more = λ w rs. refl;
 }
 
 pub adds_line : (line : List ℕ) → Lawful 0 (add_line line)
 adds_line line = record {
-  step = λ w. record { ticks = omega arith; output = longer_prefix w.output line; asks = same_prefix w.asks; cost = omega arith };
+  step = λ w. record {
+    ticks =
+        omega arith;
+    output = longer_prefix w.output line;
+    asks = same_prefix w.asks;
+    cost = omega
+        arith;
+  };
   more = λ w rs. refl;
 }
 
 -- ---- asks
 
 ask_step : (ask : Ask) (replies : List Reply) (w : World) → Step 1 w (answered ask replies w)
-ask_step ask [] w = record { ticks = omega arith; output = same_prefix w.output; asks = same_prefix w.asks; cost = omega arith }
+ask_step ask [] w = record {
+  ticks =
+      omega arith;
+  output = same_prefix w.output;
+  asks = same_prefix w.asks;
+  cost = omega arith;
+}
 ask_step ask (r ∷ replies) w = record {
   ticks = omega arith;
   output = same_prefix w.output;
@@ -142,22 +201,36 @@ ask_step ask (r ∷ replies) w = record {
   cost = omega (arith, length-append w.asks (ask ∷ []));
 }
 
-ask_onward : (ask : Ask) (replies : List Reply) (w : World) → Onward w (left (answered ask replies w))
+ask_onward : (ask : Ask) (replies : List Reply) (w : World) →
+    Onward w (left (answered ask replies w))
 ask_onward ask [] w = (same_prefix w.asks, same_prefix w.output)
 ask_onward ask (r ∷ replies) w = (longer_prefix w.asks (ask ∷ []), same_prefix w.output)
 
-ask_more : (ask : Ask) (replies : List Reply) (w : World) (rs : List Reply) → Extended rs (answered ask replies w) (answered ask (replies ++ rs) (with_more w rs))
+ask_more : (ask : Ask) (replies : List Reply) (w : World) (rs : List Reply) →
+    Extended rs (answered ask replies w) (answered ask (replies ++ rs) (with_more w rs))
 ask_more ask [] w rs = ask_onward ask rs (with_more w rs)
 ask_more ask (r ∷ replies) w rs = refl
 
 pub asks : (ask : Ask) → Lawful 1 (asking ask)
-asks ask = record { step = λ w. ask_step ask w.replies w; more = λ w rs. ask_more ask w.replies w rs }
+asks ask = record {
+  step =
+      λ w. ask_step ask w.replies w;
+  more = λ w rs. ask_more ask w.replies w rs;
+}
 
 -- ---- ticks
 
 -- two asks are paid by a tick
-tick_step : (k n : ℕ) {A : Type 0} (w : World) (f : Act A) → n ≡ w.ticks → Lawful (k + 2) f → Step k w (take_tick n w >>> λ x w. f w)
-tick_step k zero w f e l = record { ticks = omega arith; output = same_prefix w.output; asks = same_prefix w.asks; cost = omega arith }
+tick_step : (k n : ℕ) {A : Type 0} (w : World) (f : Act A) → n ≡ w.ticks → Lawful (k + 2) f →
+    Step k w (take_tick n w >>> λ x w. f w)
+tick_step k zero w f e l =
+    record {
+      ticks = omega arith;
+      output = same_prefix w.output;
+      asks = same_prefix w.asks;
+      cost =
+          omega arith;
+    }
 tick_step k (suc n) w f e l = let s = l.step (record w { ticks = n }) in record {
   ticks = omega (arith, e, s.ticks);
   output = s.output;
@@ -165,7 +238,8 @@ tick_step k (suc n) w f e l = let s = l.step (record w { ticks = n }) in record 
   cost = omega (arith, e, s.cost);
 }
 
-tick_more : (k n : ℕ) (rs : List Reply) {A : Type 0} (w : World) (f : Act A) → Lawful (k + 2) f → Extended rs (take_tick n w >>> λ x w. f w) (take_tick n (with_more w rs) >>> λ x w. f w)
+tick_more : (k n : ℕ) (rs : List Reply) {A : Type 0} (w : World) (f : Act A) → Lawful (k + 2) f →
+    Extended rs (take_tick n w >>> λ x w. f w) (take_tick n (with_more w rs) >>> λ x w. f w)
 tick_more k zero rs w f l = refl
 tick_more k (suc n) rs w f l = l.more (record w { ticks = n }) rs
 
@@ -178,18 +252,24 @@ ticked k {A} {f} l = record {
 -- ---- errors that are caught
 
 catch_step : (k : ℕ) {A : Type 0} (w : World) (e : Ends A) → Step k w e → Step k w (caught e)
-catch_step k w (gives a x) s = record { ticks = s.ticks; output = s.output; asks = s.asks; cost = s.cost }
-catch_step k w (fails v x) s = record { ticks = s.ticks; output = s.output; asks = s.asks; cost = s.cost }
-catch_step k w (out_of_steps x) s = record { ticks = s.ticks; output = s.output; asks = s.asks; cost = s.cost }
-catch_step k w (needs ask x) s = record { ticks = s.ticks; output = s.output; asks = s.asks; cost = s.cost }
+catch_step k w (gives a x) s =
+    record { ticks = s.ticks; output = s.output; asks = s.asks; cost = s.cost }
+catch_step k w (fails v x) s =
+    record { ticks = s.ticks; output = s.output; asks = s.asks; cost = s.cost }
+catch_step k w (out_of_steps x) s =
+    record { ticks = s.ticks; output = s.output; asks = s.asks; cost = s.cost }
+catch_step k w (needs ask x) s =
+    record { ticks = s.ticks; output = s.output; asks = s.asks; cost = s.cost }
 
-catch_onward : {A : Type 0} (w : World) (e : Ends A) → Onward w (left e) → Onward w (left (caught e))
+catch_onward : {A : Type 0} (w : World) (e : Ends A) → Onward w (left e) →
+    Onward w (left (caught e))
 catch_onward w (gives a x) o = o
 catch_onward w (fails v x) o = o
 catch_onward w (out_of_steps x) o = o
 catch_onward w (needs ask x) o = o
 
-catch_more : {A : Type 0} (rs : List Reply) (e e' : Ends A) → Extended rs e e' → Extended rs (caught e) (caught e')
+catch_more : {A : Type 0} (rs : List Reply) (e e' : Ends A) → Extended rs e e' →
+    Extended rs (caught e) (caught e')
 catch_more rs (gives a w) e' x = ap caught x
 catch_more rs (fails v w) e' x = ap caught x
 catch_more rs (out_of_steps w) e' x = ap caught x
@@ -210,11 +290,22 @@ pub singles : (k : ℕ) {m : Act Value} → Lawful k m → Lawful k (single m)
 singles k l = costs (k + 0) k (omega arith) (chain k 0 l (λ v. gives_lawful _))
 
 -- an act without cost, and one behind it that takes nothing from it
-pub behind : (k : ℕ) {A B : Type 0} {m : Act A} {n : Act B} → Lawful 0 m → Lawful k n → Lawful k (m >> n)
+pub behind : (k : ℕ) {A B : Type 0} {m : Act A} {n : Act B} → Lawful 0 m → Lawful k n →
+    Lawful k (m >> n)
 behind k {A} {B} {m} {n} l h = followed k {f = λ a. n} l (λ a. h)
 
 -- an act without cost where two asks are paid
 pub free : {A : Type 0} {m : Act A} → Lawful 0 m → Lawful 2 m
 free l = costs 0 2 (omega arith) l
 
-pub ruleset acts = (followed, behind, either, gives_lawful, raises_lawful, looks, changes, ones, singles)
+pub ruleset acts = (
+  followed,
+  behind,
+  either,
+  gives_lawful,
+  raises_lawful,
+  looks,
+  changes,
+  ones,
+  singles,
+)

@@ -3,3 +3,4 @@ pub mod Calling
 pub mod Evaluating
 pub mod Functions
 pub mod Runs
+pub mod of_rows

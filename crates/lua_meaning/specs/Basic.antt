@@ -17,7 +17,8 @@ assert_message v = v
 
 -- `assert(v, message)`: all arguments where v is true
 abbrev pub assert : List Value → Lib (List Value)
-assert args = if is_true (argument 0 args) then answer args else fault (raises (assert_message (argument 1 args)))
+assert args = if is_true (argument 0 args) then answer args else fault (raises (assert_message
+    (argument 1 args)))
 
 -- `collectgarbage()`: nothing is ever collected
 abbrev pub collectgarbage : List Value → Lib (List Value)
@@ -115,7 +116,8 @@ out_of_range = fault (improper 0 (codes "index out of range"))
 abbrev pub selected : ℤ → List Value → Lib (List Value)
 selected (pos zero) rest = out_of_range
 selected (pos (suc n)) rest = answer (drop n rest)
-selected (negsuc n) rest = if nat_lt n (length rest) then answer (drop (length rest - suc n) rest) else out_of_range
+selected (negsuc n) rest =
+    if nat_lt n (length rest) then answer (drop (length rest - suc n) rest) else out_of_range
 
 abbrev pub is_count_mark : Value → Bool
 is_count_mark v = same v (str (codes "#"))
@@ -171,7 +173,8 @@ tonumber args = do
   base ← number_or 1 args (pos 10)
   if same (num base) (num (pos 10)) then answer_one (to_number (argument 0 args)) else (do
     text ← text_argument 0 args
-    if is_base base then answer_one (number_value (read_in (base_number base) text)) else fault (improper 1 (codes "base out of range")))
+    if is_base base then answer_one (number_value (read_in (base_number base) text)) else fault
+        (improper 1 (codes "base out of range")))
 
 -- `type(v)`
 abbrev pub type : List Value → Lib (List Value)
@@ -192,7 +195,8 @@ items_from s t i (suc count) = raw_get s t (num i) ∷ items_from s t (i +ℤ po
 
 -- at most 1,000,000 values are given at once
 abbrev pub at_most_a_million : ℕ → Lib ⊤
-at_most_a_million count = if nat_le count 1000000 then answer tt else fault (says (codes "too many values"))
+at_most_a_million count =
+    if nat_le count 1000000 then answer tt else fault (says (codes "too many values"))
 
 -- `unpack(t, i, j)`
 abbrev pub unpack : List Value → Lib (List Value)

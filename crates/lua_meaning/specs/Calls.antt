@@ -58,7 +58,8 @@ results act = act >>= λ flow. give (values_of flow)
 -- a call takes its tick when callee and arguments are known; then the limit on active calls is tested
 abbrev pub enter : Later → (at : Option Place) → Calls → Callee → List Value → Act (List Value)
 enter again at calls callee args =
-    tick >> (if nat_lt (length calls) 4096 then results (again (invoke callee args (at ∷ calls))) else raise (str (placed at (codes "stack overflow"))))
+    tick >> (if nat_lt (length calls) 4096 then results (again (invoke callee args
+    (at ∷ calls))) else raise (str (placed at (codes "stack overflow"))))
 
 abbrev pub callee_made : Option Closure → Option Callee
 callee_made None = None
@@ -81,7 +82,8 @@ called s (func f) args = with_args (callee_of s (func f)) args
 called s (native f) args = with_args (callee_of s (native f)) args
 called s v args = with_args (callee_of s (handler s v (codes "__call"))) (v ∷ args)
 
-abbrev pub enter_called : Later → (at : Option Place) → Calls → Value → Option (Callee × List Value) → Act (List Value)
+abbrev pub enter_called : Later → (at : Option Place) → Calls → Value →
+    Option (Callee × List Value) → Act (List Value)
 enter_called again at calls f None = raise (str (placed at (call_text f)))
 enter_called again at calls f (Some c) = enter again at calls c.0 c.1
 

@@ -78,7 +78,8 @@ text_by again calls v h = one (call_back again calls h (v ∷ []))
 
 -- a value's text, or what its handler `__tostring` gives
 abbrev pub text_value : Later → Calls → Value → Act Value
-text_value again calls v = look (λ s. handler s v (codes "__tostring")) >>= λ h. text_by again calls v h
+text_value again calls v =
+    look (λ s. handler s v (codes "__tostring")) >>= λ h. text_by again calls v h
 
 -- `tostring(v)`
 abbrev pub tostring : Later → Calls → List Value → Act (List Value)
@@ -143,11 +144,13 @@ slashed c = if nat_eq c 46 then 47 else c
 -- the file of a module: its name with `/` for each dot, and `.lua` or `/init.lua` behind it
 abbrev pub module_file : Game → Bytes → Option File
 module_file game name =
-    or_file (file_at (map slashed name ++ codes ".lua") game.files) (file_at (map slashed name ++ codes "/init.lua") game.files)
+    or_file (file_at (map slashed name ++ codes ".lua") game.files) (file_at
+    (map slashed name ++ codes "/init.lua") game.files)
 
 abbrev pub found_module : Bytes → List (Bytes × Module) → Option Module
 found_module name [] = None
-found_module name (entry ∷ modules) = if bytes_eq entry.0 name then Some entry.1 else found_module name modules
+found_module name (entry ∷ modules) =
+    if bytes_eq entry.0 name then Some entry.1 else found_module name modules
 
 -- what is known of a module
 abbrev pub known_module : Bytes → Act (Option Module)
@@ -189,7 +192,8 @@ love_module name =
 -- `love.event` becomes a field of `love` in a state of a Thread
 abbrev pub with_events : Game → ℕ → Store → Store
 with_events game t s =
-    if nat_eq t love_event_place then (if nat_eq game.state 0 then s else raw_set s love_place (str (codes "event")) (table t)) else s
+    if nat_eq t love_event_place then (if nat_eq game.state 0 then
+    s else raw_set s love_place (str (codes "event")) (table t)) else s
 
 abbrev pub load_new : Game → Later → Calls → Bytes → Option ℕ → Act (List Value)
 load_new game again calls name (Some t) = change (λ s. with_events game t s) >> give (table t ∷ [])

@@ -19,10 +19,12 @@ new_data made = do
 abbrev pub part_of : Contents → (offset size : ℤ) → Lib (List Value)
 part_of whole (pos offset) (pos size) =
     if nat_le offset (length whole.bytes)
-    then (if nat_le (offset + size) (length whole.bytes) then new_data (part whole offset size) else fault (improper 2 (codes "out of bounds")))
+    then (if nat_le (offset + size) (length whole.bytes) then
+    new_data (part whole offset size) else fault (improper 2 (codes "out of bounds")))
     else fault (improper 1 (codes "out of bounds"))
 part_of whole (pos offset) (negsuc size) =
-    if nat_le offset (length whole.bytes) then fault (improper 2 (codes "out of bounds")) else fault (improper 1 (codes "out of bounds"))
+    if nat_le offset (length whole.bytes) then fault (improper 2
+    (codes "out of bounds")) else fault (improper 1 (codes "out of bounds"))
 part_of whole (negsuc offset) size = fault (improper 1 (codes "out of bounds"))
 
 -- what follows an offset; an offset that isn't one is refused afterwards
@@ -92,7 +94,8 @@ object_type s (datum d) = Some (data_type (contents_at s d).name)
 object_type s v = None
 
 abbrev pub type_argument : List Value → Lib Bytes
-type_argument args = look (λ s. object_type s (argument 0 args)) >>= λ t. wanted 0 (codes "Object") (argument 0 args) t
+type_argument args = look (λ s. object_type s (argument 0 args)) >>=
+    λ t. wanted 0 (codes "Object") (argument 0 args) t
 
 -- `o:type()`
 abbrev pub type : List Value → Lib (List Value)
@@ -104,7 +107,8 @@ is_data v = false
 
 -- whether an object of a type has a type's name: its own, `Object`, and `Data` where it is Data
 abbrev pub has_type : Value → (type name : Bytes) → Bool
-has_type v type name = bytes_eq type name || (bytes_eq name (codes "Object") || data_named (is_data v) name)
+has_type v type name =
+    bytes_eq type name || (bytes_eq name (codes "Object") || data_named (is_data v) name)
   where
     data_named : Bool → Bytes → Bool
     data_named true name = bytes_eq name (codes "Data")

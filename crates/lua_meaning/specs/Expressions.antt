@@ -61,7 +61,8 @@ abbrev mutual
     v ← one (eval again here e env)
     single (unary_value again here line op v)
   eval again here (binary line op a b) env =
-      single (operate again here line op (one (eval again here a env)) (one (eval again here b env)))
+      single (operate again here line op (one (eval again here a env)) (one
+      (eval again here b env)))
   eval again here (paren line e) env = single (one (eval again here e env))
 
   -- the values of a list: the last expression gives all of its, the others one

@@ -73,12 +73,14 @@ shown f argument = if is_method f then argument else suc argument
 
 abbrev pub bad_argument : Native → ℕ → Bytes → Bytes
 bad_argument f argument text =
-    codes "bad argument #" ++ (decimal (shown f argument) ++ (codes " to '" ++ (name f ++ (codes "' (" ++ (text ++ codes ")")))))
+    codes "bad argument #" ++ (decimal (shown f argument) ++ (codes " to '" ++ (name f ++
+    (codes "' (" ++ (text ++ codes ")")))))
 
 -- the value of a function's error, with the place of its caller
 abbrev pub fault_value : Native → Option Place → Fault → Value
 fault_value f at (wants argument expected got) =
-    str (placed at (bad_argument f argument (expected ++ (codes " expected, got " ++ type_name got))))
+    str (placed at (bad_argument f argument (expected ++
+    (codes " expected, got " ++ type_name got))))
 fault_value f at (improper argument text) = str (placed at (bad_argument f argument text))
 fault_value f at (says text) = str (placed at text)
 fault_value f at (raises v) = v

@@ -21,12 +21,14 @@ plain_item = record { left = false; zeros = false; width = 0; digits = 0 }
 -- a text in its width: on the left or on the right, with blanks
 abbrev pub padded : Item → Bytes → Bytes
 padded item text =
-    if item.left then text ++ replicate (item.width - length text) 32 else replicate (item.width - length text) 32 ++ text
+    if item.left then text ++ replicate (item.width - length text) 32 else replicate
+    (item.width - length text) 32 ++ text
 
 -- digits behind a sign in their width: on the right with zeros behind the sign where the item has the flag `0` and not `-`
 abbrev pub padded_number : Item → (sign digits : Bytes) → Bytes
 padded_number item sign digits =
-    if item.zeros && not item.left then sign ++ (replicate (item.width - length (sign ++ digits)) 48 ++ digits)
+    if item.zeros && not item.left then sign ++ (replicate (item.width - length
+    (sign ++ digits)) 48 ++ digits)
     else padded item (sign ++ digits)
 
 abbrev pub whole_text : Item → ℤ → Bytes
@@ -46,7 +48,8 @@ abbrev pub converted : Item → (letter argument : ℕ) → List Value → Lib B
 converted item letter n args =
     if nat_eq letter 100 then (number_argument n args >>= λ z. answer (whole_text item z))
     else (if nat_eq letter 115 then (text_argument n args >>= λ s. answer (padded item s))
-    else (if nat_eq letter 120 then (number_argument n args >>= λ z. hexadecimal_text n false item z)
+    else (if nat_eq letter 120 then (number_argument n args >>=
+    λ z. hexadecimal_text n false item z)
     else (if nat_eq letter 88 then (number_argument n args >>= λ z. hexadecimal_text n true item z)
     else (if nat_eq letter 99 then (byte_argument n args >>= λ b. answer (padded item (b ∷ [])))
     else invalid_format))))
@@ -72,7 +75,9 @@ with_digit item c = record item { width = item.width * 10 + (c - 48); digits = s
 abbrev mutual
   pub text_from : Bytes → ℕ → List Value → Lib Bytes
   text_from [] n args = answer []
-  text_from (c ∷ cs) n args = if nat_eq c 37 then item_from cs plain_item n args else (text_from cs n args >>= λ rest. answer (c ∷ rest))
+  text_from (c ∷ cs) n args =
+      if nat_eq c 37 then item_from cs plain_item n args else (text_from cs n args >>=
+      λ rest. answer (c ∷ rest))
 
   pub item_from : Bytes → Item → ℕ → List Value → Lib Bytes
   item_from [] item n args = invalid_format
@@ -80,7 +85,8 @@ abbrev mutual
       if is_flag item c then item_from cs (with_flag item c) n args
       else (if is_width item c then item_from cs (with_digit item c) n args
       else (if nat_eq c 37 && is_plain item then (text_from cs n args >>= λ rest. answer (c ∷ rest))
-      else (converted item c n args >>= λ text. text_from cs (suc n) args >>= λ rest. answer (text ++ rest))))
+      else (converted item c n args >>= λ text. text_from cs (suc n) args >>=
+      λ rest. answer (text ++ rest))))
 
 -- `string.format(f, ...)`
 abbrev pub format : List Value → Lib (List Value)

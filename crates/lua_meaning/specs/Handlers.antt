@@ -40,15 +40,19 @@ method_named fs key = nil
 -- the methods of Data; only what came from a file has a file's name
 abbrev pub methods_of_data : Option Bytes → List Native
 methods_of_data (Some file) = on_shelf data_methods ++ on_shelf object_methods
-methods_of_data None = filter (λ f. not (bytes_eq (name f) (codes "getFilename"))) (on_shelf data_methods) ++ on_shelf object_methods
+methods_of_data None =
+    filter (λ f. not (bytes_eq (name f) (codes "getFilename")))
+    (on_shelf data_methods) ++ on_shelf object_methods
 
 -- ---- reading
 
 -- the value that a table or an object has itself for a key; an object has all that it ever has
 abbrev pub own_value : Store → Value → (key : Value) → Option Value
 own_value s (table t) key = if is_nil (raw_get s t key) then None else Some (raw_get s t key)
-own_value s (channel c) key = Some (method_named (on_shelf channel_methods ++ on_shelf object_methods) key)
-own_value s (thread t) key = Some (method_named (on_shelf thread_methods ++ on_shelf object_methods) key)
+own_value s (channel c) key =
+    Some (method_named (on_shelf channel_methods ++ on_shelf object_methods) key)
+own_value s (thread t) key =
+    Some (method_named (on_shelf thread_methods ++ on_shelf object_methods) key)
 own_value s (datum d) key = Some (method_named (methods_of_data (contents_at s d).name) key)
 own_value s v key = None
 
@@ -69,7 +73,8 @@ by_own s base None next = by_handler base (handler s base (codes "__index")) nex
 -- a field of a handler, where so many further handlers may be indexed
 abbrev pub lookup_within : ℕ → Store → (key base : Value) → Lookup
 lookup_within zero s key base = endless
-lookup_within (suc left) s key base = by_own s base (own_value s base key) (λ h. lookup_within left s key h)
+lookup_within (suc left) s key base =
+    by_own s base (own_value s base key) (λ h. lookup_within left s key h)
 
 -- a field of a value; the hundredth handler that isn't a function is one too many
 abbrev pub lookup : Store → (base key : Value) → Lookup
@@ -88,7 +93,8 @@ set_by_handler base h next = if is_function h then asks_set h base else next h
 -- a table that has a value for the key keeps to itself
 abbrev pub set_by_own : Store → (base key : Value) → (Value → Setting) → Setting
 set_by_own s (table t) key next =
-    if is_nil (raw_get s t key) then set_by_handler (table t) (handler s (table t) (codes "__newindex")) next else in_table t
+    if is_nil (raw_get s t key) then set_by_handler (table t) (handler s (table t)
+    (codes "__newindex")) next else in_table t
 set_by_own s base key next = set_by_handler base (handler s base (codes "__newindex")) next
 
 abbrev pub setting_within : ℕ → Store → (key base : Value) → Setting

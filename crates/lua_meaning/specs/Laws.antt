@@ -38,7 +38,8 @@ RunsSpend = (start : Start) → (run start).ticks ≤ start.ticks
 -- a run's asks, with the one that waits, are at most twice the ticks that it took
 abbrev pub AsksAreFew : Type 0
 AsksAreFew =
-    (start : Start) → length (run start).asks + waiting (run start).end ≤ 2 * (start.ticks - (run start).ticks)
+    (start : Start) → length (run start).asks + waiting (run start).end ≤ 2 * (start.ticks -
+    (run start).ticks)
 
 -- the same start with more replies
 abbrev pub with_replies : Start → List Reply → Start
@@ -50,7 +51,8 @@ pub record Extends (short long : Run) : Type 0 where
   pub output : IsPrefix short.output long.output
 
 abbrev pub RepliesExtend : Type 0
-RepliesExtend = (start : Start) (more : List Reply) → Extends (run start) (run (with_replies start more))
+RepliesExtend = (start : Start) (more : List Reply) →
+    Extends (run start) (run (with_replies start more))
 
 -- whether a run waits for a reply
 abbrev pub IsWaiting : End → Type 0
@@ -58,4 +60,5 @@ IsWaiting end = waiting end ≡ 1
 
 -- a run that doesn't wait is the same with more replies
 abbrev pub EndsStay : Type 0
-EndsStay = (start : Start) (more : List Reply) → waiting (run start).end ≡ 0 → run (with_replies start more) ≡ run start
+EndsStay = (start : Start) (more : List Reply) → waiting (run start).end ≡ 0 →
+    run (with_replies start more) ≡ run start

@@ -28,3 +28,4 @@ pub mod Love
 pub mod Running
 pub mod Run
 pub mod Laws
+pub mod rows

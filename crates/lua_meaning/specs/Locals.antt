@@ -35,7 +35,8 @@ find x (entry ∷ env) = if bytes_eq entry.0 x then Some entry.1 else find x env
 -- the locals where that of a name holds a value
 abbrev pub holding : Bytes → Value → Env → Env
 holding x v [] = []
-holding x v (entry ∷ env) = if bytes_eq entry.0 x then (entry.0, held v) ∷ env else entry ∷ holding x v env
+holding x v (entry ∷ env) =
+    if bytes_eq entry.0 x then (entry.0, held v) ∷ env else entry ∷ holding x v env
 
 -- what a local holds
 abbrev pub slot_value : Slot → Act Value
@@ -66,7 +67,8 @@ make_slot true v = do
 abbrev pub declare : List Bytes → (captured : List Bytes) → List Value → Env → Act Env
 declare [] captured vs env = give env
 declare (x ∷ xs) captured vs env =
-    make_slot (is_captured xs captured x) (first vs) >>= λ slot. declare xs captured (drop 1 vs) ((x, slot) ∷ env)
+    make_slot (is_captured xs captured x) (first vs) >>=
+    λ slot. declare xs captured (drop 1 vs) ((x, slot) ∷ env)
 
 -- the locals that were there before others came in front of them
 abbrev pub outer : (before : Env) → Env → Env
@@ -103,7 +105,12 @@ cells_of (x ∷ xs) env = cell_found x (find x env) ++ cells_of xs env
 abbrev pub make_function : (file : Bytes) → Func → Env → Act Value
 make_function file f env = do
   place ← look (λ s. length s.functions)
-  change (λ s. add_closure s (record { file = file; node = f; cells = cells_of (func_names f) env }))
+  change (λ s. add_closure s (record {
+    file =
+        file;
+    node = f;
+    cells = cells_of (func_names f) env;
+  }))
   give (func_value place)
 
 -- the locals that a function finds outside itself

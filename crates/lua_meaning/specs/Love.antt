@@ -26,8 +26,10 @@ with_store f w = let r = f w.store in Ends.gives r.0 (record w { store = r.1 })
 
 -- the name and the values of an event
 abbrev pub event_values : Event → Act (List Value)
-event_values (Event.user name args) = with_store (λ s. unpack_all args s) >>= λ vs. give (str name ∷ vs)
-event_values (Event.thread_error t text) = give (str (codes "threaderror") ∷ thread t ∷ str text ∷ [])
+event_values (Event.user name args) =
+    with_store (λ s. unpack_all args s) >>= λ vs. give (str name ∷ vs)
+event_values (Event.thread_error t text) =
+    give (str (codes "threaderror") ∷ thread t ∷ str text ∷ [])
 
 -- the values that a reply gives; a refusal is an error
 abbrev pub reply_values : Calls → Reply → Act (List Value)
@@ -81,7 +83,8 @@ new_thread_of_file calls path (Some file) = ask calls (Ask.new_thread (Source.fi
 
 abbrev pub new_thread_of_text : Game → Calls → Bytes → Act (List Value)
 new_thread_of_text game calls text =
-    if is_code text then ask calls (Ask.new_thread (Source.code text)) else new_thread_of_file calls text (file_at text game.files)
+    if is_code text then ask calls (Ask.new_thread (Source.code text)) else new_thread_of_file
+    calls text (file_at text game.files)
 
 abbrev pub file_data_in : Store → Value → Option Contents
 file_data_in s (datum d) = named (contents_at s d) (contents_at s d).name
@@ -92,19 +95,24 @@ file_data_in s (datum d) = named (contents_at s d) (contents_at s d).name
 file_data_in s v = None
 
 abbrev pub new_thread_of : Game → Calls → List Value → Option Contents → Act (List Value)
-new_thread_of game calls args (Some contents) = ask calls (Ask.new_thread (Source.file_data contents))
+new_thread_of game calls args (Some contents) =
+    ask calls (Ask.new_thread (Source.file_data contents))
 new_thread_of game calls args None =
-    by_library Native.love_thread_new_thread calls (text_argument 0 args) >>= λ text. new_thread_of_text game calls text
+    by_library Native.love_thread_new_thread calls (text_argument 0 args) >>=
+    λ text. new_thread_of_text game calls text
 
 -- `love.thread.newThread(x)`: of a FileData, of code, or of a file of the game's folder
 abbrev pub new_thread : Game → Calls → List Value → Act (List Value)
-new_thread game calls args = look (λ s. file_data_in s (argument 0 args)) >>= λ contents. new_thread_of game calls args contents
+new_thread game calls args =
+    look (λ s. file_data_in s (argument 0 args)) >>=
+    λ contents. new_thread_of game calls args contents
 
 -- ---- Channels
 
 -- a method of Channels that only asks
 abbrev pub ask_channel : Native → (ℕ → Ask) → Calls → List Value → Act (List Value)
-ask_channel f question calls args = by_library f calls (channel_argument 0 args) >>= λ c. ask calls (question c)
+ask_channel f question calls args =
+    by_library f calls (channel_argument 0 args) >>= λ c. ask calls (question c)
 
 -- `c:push(v)`: the message's id
 abbrev pub push : Calls → List Value → Act (List Value)
@@ -119,7 +127,8 @@ waited None vs = flag true ∷ []
 waited (Some seconds) vs = vs
 
 abbrev pub await_reply : Calls → ℕ → Option ℕ → Reply → Act (List Value)
-await_reply calls c limit (Reply.id n) = ask calls (Ask.await c n limit) >>= λ vs. give (waited limit vs)
+await_reply calls c limit (Reply.id n) =
+    ask calls (Ask.await c n limit) >>= λ vs. give (waited limit vs)
 await_reply calls c limit reply = reply_values calls reply
 
 -- `c:supply(v, seconds)`
@@ -168,7 +177,8 @@ perform_atomic again calls args = do
 
 -- a method of Threads that only asks
 abbrev pub ask_thread : Native → (ℕ → Ask) → Calls → List Value → Act (List Value)
-ask_thread f question calls args = by_library f calls (thread_argument 0 args) >>= λ t. ask calls (question t)
+ask_thread f question calls args =
+    by_library f calls (thread_argument 0 args) >>= λ t. ask calls (question t)
 
 -- `t:start(...)`
 abbrev pub start : Calls → List Value → Act (List Value)
@@ -185,7 +195,8 @@ nothing_read path = give (nil ∷ str (no_file path) ∷ [])
 abbrev pub read_file : Calls → Bytes → Option File → Act (List Value)
 read_file calls path None = nothing_read path
 read_file calls path (Some file) =
-    by_library Native.love_filesystem_read calls (string_value file.bytes) >>= λ vs. give (vs ++ num (pos (length file.bytes)) ∷ [])
+    by_library Native.love_filesystem_read calls (string_value file.bytes) >>=
+    λ vs. give (vs ++ num (pos (length file.bytes)) ∷ [])
 
 -- `love.filesystem.read(name)`: the file's bytes and their number, or nil and why not
 abbrev pub read : Game → Calls → List Value → Act (List Value)
@@ -196,7 +207,8 @@ read game calls args = do
 abbrev pub file_data : Calls → Bytes → Option File → Act (List Value)
 file_data calls path None = nothing_read path
 file_data calls path (Some file) =
-    by_library Native.love_filesystem_new_file_data calls (new_data (record { bytes = file.bytes; name = Some path }))
+    by_library Native.love_filesystem_new_file_data calls (new_data
+    (record { bytes = file.bytes; name = Some path }))
 
 abbrev pub new_file_data_of : Game → Calls → List Value → (name : Value) → Act (List Value)
 new_file_data_of game calls args nil = do
@@ -205,7 +217,8 @@ new_file_data_of game calls args nil = do
 new_file_data_of game calls args v = do
   bytes ← by_library Native.love_filesystem_new_file_data calls (text_argument 0 args)
   name ← by_library Native.love_filesystem_new_file_data calls (text_argument 1 args)
-  by_library Native.love_filesystem_new_file_data calls (new_data (record { bytes = bytes; name = Some name }))
+  by_library Native.love_filesystem_new_file_data calls (new_data
+      (record { bytes = bytes; name = Some name }))
 
 -- `love.filesystem.newFileData(x, name)`: of the bytes x; without a name of the file x, or nil and why not
 abbrev pub new_file_data : Game → Calls → List Value → Act (List Value)
@@ -230,7 +243,8 @@ quit calls args = do
 
 -- events are polled by state 0
 abbrev pub by_main : Game → Calls → Act (List Value) → Act (List Value)
-by_main game calls act = if nat_eq game.state 0 then act else refuse calls (codes "events are polled by the main state")
+by_main game calls act =
+    if nat_eq game.state 0 then act else refuse calls (codes "events are polled by the main state")
 
 -- what `love.event.poll` gives to walk with: the next event's name and values, or nil
 abbrev pub poll : Game → Calls → Act (List Value)

@@ -23,7 +23,8 @@ less a b = if int_le a b then a else b
 -- what stands out of a first number and so many arguments from the n-th on
 abbrev pub outstanding : (ℤ → ℤ → ℤ) → ℤ → ℕ → ℕ → List Value → Lib ℤ
 outstanding choose x n zero args = answer x
-outstanding choose x n (suc count) args = number_argument n args >>= λ y. outstanding choose (choose x y) (suc n) count args
+outstanding choose x n (suc count) args =
+    number_argument n args >>= λ y. outstanding choose (choose x y) (suc n) count args
 
 abbrev pub behind_first : ℕ → ℕ
 behind_first zero = 0
@@ -63,4 +64,5 @@ abbrev pub fmod : List Value → Lib (List Value)
 fmod args = do
   a ← number_argument 0 args
   b ← number_argument 1 args
-  if nat_eq (unsigned_abs b) 0 then fault (says (codes "number has no whole value")) else answer_one (num (remainder a (unsigned_abs b)))
+  if nat_eq (unsigned_abs b) 0 then fault (says (codes "number has no whole value")) else
+      answer_one (num (remainder a (unsigned_abs b)))

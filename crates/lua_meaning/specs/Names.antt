@@ -44,7 +44,8 @@ abbrev mutual
   pub fields_names : (here : Bool) → Fields → List Bytes
   fields_names here no_fields = []
   fields_names here (item_and e fs) = expr_names here e ++ fields_names here fs
-  fields_names here (keyed_and k e fs) = (expr_names here k ++ expr_names here e) ++ fields_names here fs
+  fields_names here (keyed_and k e fs) =
+      (expr_names here k ++ expr_names here e) ++ fields_names here fs
 
   -- the names that a function uses from outside, each once
   pub func_names : Func → List Bytes
@@ -57,19 +58,25 @@ abbrev mutual
 
   -- the names of a statement and of what follows it in its block
   pub stat_names : (here : Bool) → Stat → (later : List Bytes) → List Bytes
-  stat_names here (assign line targets es) later = (exprs_names here targets ++ exprs_names here es) ++ later
+  stat_names here (assign line targets es) later =
+      (exprs_names here targets ++ exprs_names here es) ++ later
   stat_names here (local line xs es) later = exprs_names here es ++ without xs later
   stat_names here (call_stat line e) later = expr_names here e ++ later
   stat_names here (do_block line b) later = block_names here b [] ++ later
-  stat_names here (while_loop line e b) later = (expr_names here e ++ block_names here b []) ++ later
+  stat_names here (while_loop line e b) later =
+      (expr_names here e ++ block_names here b []) ++ later
   stat_names here (repeat_loop line b e) later = block_names here b (expr_names here e) ++ later
   stat_names here (if_stat line arms) later = arms_names here arms ++ later
   stat_names here (num_for line x a b body) later =
-      (expr_names here a ++ (expr_names here b ++ without (x ∷ []) (block_names here body []))) ++ later
+      (expr_names here a ++ (expr_names here b ++ without (x ∷ [])
+      (block_names here body []))) ++ later
   stat_names here (num_for_by line x a b c body) later =
-      (expr_names here a ++ (expr_names here b ++ (expr_names here c ++ without (x ∷ []) (block_names here body [])))) ++ later
-  stat_names here (gen_for line xs es body) later = (exprs_names here es ++ without xs (block_names here body [])) ++ later
-  stat_names here (function_stat line target f) later = (expr_names here target ++ func_names f) ++ later
+      (expr_names here a ++ (expr_names here b ++ (expr_names here c ++ without (x ∷ [])
+      (block_names here body [])))) ++ later
+  stat_names here (gen_for line xs es body) later =
+      (exprs_names here es ++ without xs (block_names here body [])) ++ later
+  stat_names here (function_stat line target f) later =
+      (expr_names here target ++ func_names f) ++ later
   stat_names here (local_function line x f) later = without (x ∷ []) (func_names f ++ later)
   stat_names here (return_stat line es) later = exprs_names here es ++ later
   stat_names here (break_stat line) later = later
@@ -77,7 +84,8 @@ abbrev mutual
   pub arms_names : (here : Bool) → Arms → List Bytes
   arms_names here no_else = []
   arms_names here (else_block b) = block_names here b []
-  arms_names here (arm_and e b arms) = (expr_names here e ++ block_names here b []) ++ arms_names here arms
+  arms_names here (arm_and e b arms) =
+      (expr_names here e ++ block_names here b []) ++ arms_names here arms
 
 -- the names that functions inside a block use from outside it
 abbrev pub captured_in : Block → List Bytes

@@ -249,15 +249,19 @@ name poll_walk = codes "poll"
 -- all of them, shelf by shelf
 abbrev pub all : List Native
 all =
-    assert ∷ collectgarbage ∷ error ∷ getmetatable ∷ ipairs ∷ next ∷ pairs ∷ pcall ∷ print ∷ rawequal ∷ rawget ∷ rawset ∷ require ∷ select ∷ setmetatable ∷ tonumber ∷ tostring ∷ type ∷ unpack ∷
-    string_byte ∷ string_char ∷ string_find ∷ string_format ∷ string_len ∷ string_lower ∷ string_rep ∷ string_reverse ∷ string_sub ∷ string_upper ∷
+    assert ∷ collectgarbage ∷ error ∷ getmetatable ∷ ipairs ∷ next ∷ pairs ∷ pcall ∷ print ∷
+    rawequal ∷ rawget ∷ rawset ∷ require ∷ select ∷ setmetatable ∷ tonumber ∷ tostring ∷ type ∷
+    unpack ∷
+    string_byte ∷ string_char ∷ string_find ∷ string_format ∷ string_len ∷ string_lower ∷
+    string_rep ∷ string_reverse ∷ string_sub ∷ string_upper ∷
     table_concat ∷ table_insert ∷ table_maxn ∷ table_remove ∷ table_sort ∷
     math_abs ∷ math_ceil ∷ math_floor ∷ math_fmod ∷ math_max ∷ math_min ∷ math_pow ∷
     love_thread_get_channel ∷ love_thread_new_channel ∷ love_thread_new_thread ∷
     love_data_new_byte_data ∷ love_data_new_data_view ∷
     love_filesystem_new_file_data ∷ love_filesystem_read ∷
     love_event_clear ∷ love_event_poll ∷ love_event_pump ∷ love_event_push ∷ love_event_quit ∷
-    channel_clear ∷ channel_demand ∷ channel_get_count ∷ channel_has_read ∷ channel_peek ∷ channel_perform_atomic ∷ channel_pop ∷ channel_push ∷ channel_supply ∷
+    channel_clear ∷ channel_demand ∷ channel_get_count ∷ channel_has_read ∷ channel_peek ∷
+    channel_perform_atomic ∷ channel_pop ∷ channel_push ∷ channel_supply ∷
     thread_get_error ∷ thread_is_running ∷ thread_start ∷ thread_wait ∷
     data_get_filename ∷ data_get_size ∷ data_get_string ∷
     object_type ∷ object_type_of ∷

@@ -45,11 +45,14 @@ is_point c = nat_eq c 46
 -- what a function gives for a text behind its sign, if it has one: the negative behind `-`
 abbrev pub with_sign : (List ℕ → Option ℤ) → List ℕ → Option ℤ
 with_sign read [] = read []
-with_sign read (c ∷ cs) = if nat_eq c 45 then option_map neg_ℤ (read cs) else (if nat_eq c 43 then read cs else read (c ∷ cs))
+with_sign read (c ∷ cs) =
+    if nat_eq c 45 then option_map neg_ℤ (read cs) else (if nat_eq c 43 then
+    read cs else read (c ∷ cs))
 
 -- digits of a base as a number, where there are any
 abbrev pub digits_number : ℕ → List ℕ → Option ℤ
-digits_number base text = if are_some_digits base text then Some (pos (digits_value base text)) else None
+digits_number base text =
+    if are_some_digits base text then Some (pos (digits_value base text)) else None
 
 -- the value of so many decimal digits times ten to an exponent: where it is whole and a number
 abbrev pub scaled : (count value : ℕ) → ℤ → Option ℤ
@@ -63,7 +66,8 @@ scaled count (suc m) (negsuc k) =
 abbrev pub decimal_number : (whole fraction : List ℕ) → ℤ → Option ℤ
 decimal_number whole fraction e =
     if are_some_digits 10 (whole ++ fraction)
-    then scaled (length (whole ++ fraction)) (digits_value 10 (whole ++ fraction)) (e +ℤ neg_ℤ (pos (length fraction)))
+    then scaled (length (whole ++ fraction)) (digits_value 10 (whole ++ fraction)) (e +ℤ neg_ℤ (pos
+    (length fraction)))
     else None
 
 -- a mantissa and an exponent
@@ -95,7 +99,8 @@ behind_two text = []
 -- a numeral (manual §2.1), whose value is exact
 abbrev pub numeral : List ℕ → Option ℤ
 numeral text =
-    if begins_hexadecimal text then option_and_then kept (digits_number 16 (behind_two text)) else decimal_numeral text
+    if begins_hexadecimal text then option_and_then kept (digits_number 16
+    (behind_two text)) else decimal_numeral text
 
 -- a text as a number: blanks, an optional sign, a numeral, blanks
 abbrev pub read : List ℕ → Option ℤ

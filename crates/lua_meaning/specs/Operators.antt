@@ -32,7 +32,8 @@ binary_handler s event a b = or_else (handler s a event) (handler s b event)
 -- the handler of two tables that have the same one, nil for other values
 abbrev pub shared_handler : Store → Bytes → Value → Value → Value
 shared_handler s event (table a) (table b) =
-    if same (handler s (table a) event) (handler s (table b) event) then handler s (table a) event else nil
+    if same (handler s (table a) event) (handler s (table b) event) then
+    handler s (table a) event else nil
 shared_handler s event a b = nil
 
 -- the order of two numbers, and of two strings by bytes; other values have none of their own
@@ -62,10 +63,12 @@ module _ (again : Later) (here : Here) (line : ℕ) where
   exact (Ok z) = give (num z)
   exact (Err e) = fault_at here line (number_text e)
 
-  abbrev pub by_numbers : (ℤ → ℤ → Result ℤ NumFault) → (event : Bytes) → Value → Value → Option ℤ → Option ℤ → Act Value
+  abbrev pub by_numbers : (ℤ → ℤ → Result ℤ NumFault) → (event : Bytes) → Value → Value →
+      Option ℤ → Option ℤ → Act Value
   by_numbers op event a b (Some x) (Some y) = exact (op x y)
   by_numbers op event a b x y =
-      look (λ s. binary_handler s event a b) >>= λ h. ask_or_fault h (arithmetic_text (first_bad x a b)) (a ∷ b ∷ [])
+      look (λ s. binary_handler s event a b) >>= λ h. ask_or_fault h (arithmetic_text
+      (first_bad x a b)) (a ∷ b ∷ [])
 
   -- numbers and strings that read as numbers; else the event's handler
   abbrev pub calculate : (ℤ → ℤ → Result ℤ NumFault) → (event : Bytes) → Value → Value → Act Value
@@ -73,7 +76,8 @@ module _ (again : Later) (here : Here) (line : ℕ) where
 
   abbrev pub by_number : Value → Option ℤ → Act Value
   by_number v (Some n) = give (num (neg_ℤ n))
-  by_number v None = look (λ s. handler s v (codes "__unm")) >>= λ h. ask_or_fault h (arithmetic_text v) (v ∷ v ∷ [])
+  by_number v None = look (λ s. handler s v (codes "__unm")) >>=
+      λ h. ask_or_fault h (arithmetic_text v) (v ∷ v ∷ [])
 
   abbrev pub negative : Value → Act Value
   negative v = by_number v (as_number v)
@@ -82,9 +86,11 @@ module _ (again : Later) (here : Here) (line : ℕ) where
 
   abbrev pub by_texts : Value → Value → Option Bytes → Option Bytes → Act Value
   by_texts a b (Some x) (Some y) =
-      if nat_le (length x + length y) longest_string then give (str (x ++ y)) else fault_at here line (codes "string too long")
+      if nat_le (length x + length y) longest_string then
+      give (str (x ++ y)) else fault_at here line (codes "string too long")
   by_texts a b x y =
-      look (λ s. binary_handler s (codes "__concat") a b) >>= λ h. ask_or_fault h (concat_text (first_no_text x a b)) (a ∷ b ∷ [])
+      look (λ s. binary_handler s (codes "__concat") a b) >>=
+      λ h. ask_or_fault h (concat_text (first_no_text x a b)) (a ∷ b ∷ [])
 
   -- strings and numbers; else the handler
   abbrev pub concatenate : Value → Value → Act Value
@@ -105,7 +111,8 @@ module _ (again : Later) (here : Here) (line : ℕ) where
   untruth v = give (flag (not (is_true v)))
 
   abbrev pub equal_by : (handler : Value) → List Value → Act Value
-  equal_by h args = if is_function h then (ask_handler h args >>= λ v. truth v) else give (flag false)
+  equal_by h args = if is_function h then (ask_handler h args >>=
+      λ v. truth v) else give (flag false)
 
   -- the same value; two tables are also compared by the function that both have as their handler
   abbrev pub equal : Value → Value → Act Value
@@ -119,7 +126,8 @@ module _ (again : Later) (here : Here) (line : ℕ) where
   abbrev pub less_by : Option Bool → Value → Value → Act Value
   less_by (Some known) a b = give (flag known)
   less_by None a b =
-      look (λ s. shared_handler s (codes "__lt") a b) >>= λ h. ask_or_fault h (order_text a b) (a ∷ b ∷ []) >>= λ v. truth v
+      look (λ s. shared_handler s (codes "__lt") a b) >>=
+      λ h. ask_or_fault h (order_text a b) (a ∷ b ∷ []) >>= λ v. truth v
 
   -- two numbers, or two strings by bytes; else the handler that both tables have
   abbrev pub less : Value → Value → Act Value

@@ -43,13 +43,16 @@ pack_key (str s) = Ok (Message.str s)
 pack_key v = Err (key v)
 
 -- the pair at a place, where it has a value, in front of the others
-abbrev pub pack_pair : (pack : Value → Result Message PackFault) (k : Value) → Option Value → Result Pairs PackFault → Result Pairs PackFault
+abbrev pub pack_pair : (pack : Value → Result Message PackFault) (k : Value) → Option Value →
+    Result Pairs PackFault → Result Pairs PackFault
 pack_pair pack k None rest = rest
 pack_pair pack k (Some v) rest =
-    unless_fault (pack_key k) (λ k. unless_fault (pack v) (λ v. unless_fault rest (λ rest. Ok (pair_and k v rest))))
+    unless_fault (pack_key k) (λ k. unless_fault (pack v) (λ v. unless_fault rest (λ rest. Ok
+    (pair_and k v rest))))
 
 -- the pairs of a table in the order of `next`, each by its key and then its value
-abbrev pub pack_places : (pack : Value → Result Message PackFault) → Places Value Value → Result Pairs PackFault
+abbrev pub pack_places : (pack : Value → Result Message PackFault) → Places Value Value →
+    Result Pairs PackFault
 pack_places pack [] = Ok no_pairs
 pack_places pack (place ∷ rest) = pack_pair pack place.0 place.1 (pack_places pack rest)
 
@@ -63,7 +66,8 @@ pack_within left s inside (str bytes) = Ok (Message.str bytes)
 pack_within zero s inside (table t) = if holds inside t then Err cycle else Err depth
 pack_within (suc left) s inside (table t) =
     if holds inside t then Err cycle
-    else unless_fault (pack_places (λ v. pack_within left s (t ∷ inside) v) (table_at s t).places) (λ pairs. Ok (Message.table pairs))
+    else unless_fault (pack_places (λ v. pack_within left s (t ∷ inside) v) (table_at s t).places)
+    (λ pairs. Ok (Message.table pairs))
 pack_within left s inside (func f) = Err (kind (func f))
 pack_within left s inside (native f) = Err (kind (native f))
 pack_within left s inside (channel c) = Ok (Message.channel c)
@@ -77,7 +81,8 @@ pack s v = pack_within 128 s [] v
 -- values as messages; the first fault counts
 abbrev pub pack_all : Store → List Value → Result (List Message) PackFault
 pack_all s [] = Ok []
-pack_all s (v ∷ vs) = unless_fault (pack s v) (λ m. unless_fault (pack_all s vs) (λ ms. Ok (m ∷ ms)))
+pack_all s (v ∷ vs) =
+    unless_fault (pack s v) (λ m. unless_fault (pack_all s vs) (λ ms. Ok (m ∷ ms)))
 
 -- a table gets the pair of what a key and a value came to; a pair whose key is nil is passed over, its value unmade
 abbrev pub unpack_pair : ℕ → (key : Value × Store) → (value : Store → Value × Store) → Store
@@ -94,11 +99,13 @@ abbrev mutual
   unpack (Message.str bytes) s = (str bytes, s)
   unpack (Message.datum made) s = (datum (length s.contents), add_contents s made)
   unpack (Message.channel c) s = (channel c, s)
-  unpack (Message.table pairs) s = (table (length s.tables), unpack_pairs pairs (length s.tables) (add_table s))
+  unpack (Message.table pairs) s =
+      (table (length s.tables), unpack_pairs pairs (length s.tables) (add_table s))
 
   pub unpack_pairs : Pairs → ℕ → Store → Store
   unpack_pairs no_pairs t s = s
-  unpack_pairs (pair_and k v rest) t s = unpack_pairs rest t (unpack_pair t (unpack k s) (λ s. unpack v s))
+  unpack_pairs (pair_and k v rest) t s =
+      unpack_pairs rest t (unpack_pair t (unpack k s) (λ s. unpack v s))
 
 -- messages as values, in order
 abbrev pub unpack_all : List Message → Store → List Value × Store

@@ -47,12 +47,20 @@ love_places state =
 abbrev pub first_tables : (state : ℕ) → List Table
 first_tables state =
     table_of global_places ∷ table_of (functions string_table) ∷ table_of (functions table_table)
-    ∷ table_of (functions math_table) ∷ table_of (love_places state) ∷ table_of (functions love_thread)
-    ∷ table_of (functions love_data) ∷ table_of (functions love_filesystem) ∷ table_of (functions love_event)
+    ∷ table_of (functions math_table) ∷ table_of (love_places state) ∷ table_of
+    (functions love_thread)
+    ∷ table_of (functions love_data) ∷ table_of (functions love_filesystem) ∷ table_of
+    (functions love_event)
     ∷ table_of (entry (codes "__index") (table string_place) ∷ []) ∷ []
 
 abbrev pub first_store : (state : ℕ) → Store
-first_store state = record { tables = first_tables state; cells = []; functions = []; contents = [] }
+first_store state = record {
+  tables =
+      first_tables state;
+  cells = [];
+  functions = [];
+  contents = [];
+}
 
 -- ---- a state's run
 
@@ -68,13 +76,23 @@ pub record Start : Type 0 where
 -- its world at its start, once it holds a store
 abbrev pub first_world : Start → Store → World
 first_world start s =
-    record { store = s; modules = []; output = []; ends = []; ticks = start.ticks; asks = []; replies = start.replies }
+    record {
+      store = s;
+      modules =
+          [];
+      output = [];
+      ends = [];
+      ticks = start.ticks;
+      asks = [];
+      replies = start.replies;
+    }
 
 -- what a block means as the main function of a state; it takes no tick itself
 abbrev pub meant : Start → Block → Ends Flow
 meant start b =
     let args : List Value × Store = unpack_all start.args (first_store start.game.state) in
-    within start.game (suc start.ticks) (invoke (chunk start.file b) args.0 []) (first_world start args.1)
+    within start.game (suc start.ticks) (invoke (chunk start.file b) args.0 [])
+    (first_world start args.1)
 
 -- how a run stands at last: it is done, with a number where that is the first value returned; it failed with a text; it
 -- is out of steps; or it needs a reply
@@ -106,7 +124,15 @@ error_text v = codes "(error object is a " ++ (type_name v ++ codes " value)")
 
 abbrev pub run_of : End → World → Run
 run_of end w =
-    record { asks = w.asks; output = w.output; ends = w.ends; end = end; cells = length w.store.cells; ticks = w.ticks }
+    record {
+      asks = w.asks;
+      output =
+          w.output;
+      ends = w.ends;
+      end = end;
+      cells = length w.store.cells;
+      ticks = w.ticks;
+    }
 
 abbrev pub ended : Ends Flow → Run
 ended (gives flow w) = run_of (done (done_value (first (values_of flow)))) w

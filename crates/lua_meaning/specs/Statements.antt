@@ -40,7 +40,8 @@ targets again here (expr_and e es) env = do
 -- a target gets a value
 abbrev pub assign_to : Later → Here → Target → Value → Env → Act Env
 assign_to again here (local_target x) v env = set_local x v env
-assign_to again here (field_target line base key) v env = set_field again here line base key v >> give env
+assign_to again here (field_target line base key) v env =
+    set_field again here line base key v >> give env
 assign_to again here no_target v env = give env
 
 -- targets get their values, the last one first (manual §2.4.3)
@@ -54,7 +55,8 @@ wants_number here line text None = fault_at here line text
 wants_number here line text (Some n) = give n
 
 -- the numbers of a numeric `for`, tested in this order
-abbrev pub for_numbers : Later → Here → ℕ → Env → Bytes → Block → (start limit step : Value) → Act Flow
+abbrev pub for_numbers : Later → Here → ℕ → Env → Bytes → Block → (start limit step : Value) →
+    Act Flow
 for_numbers again here line env x b start limit step = do
   n ← wants_number here line (codes "'for' initial value must be a number") (as_number start)
   m ← wants_number here line (codes "'for' limit must be a number") (as_number limit)

@@ -113,7 +113,8 @@ contents_at s d = unwrap_or (slice_get s.contents d) no_contents
 
 -- the places of a table with a value for a key; nil takes the key's value away
 abbrev pub with_value : Places Value Value → (key value : Value) → Places Value Value
-with_value places key value = if is_nil value then clear_key same places key else set same places key value
+with_value places key value =
+    if is_nil value then clear_key same places key else set same places key value
 
 abbrev pub set_table : Store → ℕ → Table → Store
 set_table s t made = record s { tables = slice_set s.tables t made }
@@ -121,7 +122,11 @@ set_table s t made = record s { tables = slice_set s.tables t made }
 -- a table gets a value for a key, which isn't nil
 abbrev pub raw_set : Store → ℕ → (key value : Value) → Store
 raw_set s t key value =
-    set_table s t (record { places = with_value (table_at s t).places key value; meta = (table_at s t).meta })
+    set_table s t (record {
+      places =
+          with_value (table_at s t).places key value;
+      meta = (table_at s t).meta;
+    })
 
 -- a table gets a metatable, or loses it
 abbrev pub set_meta : Store → ℕ → Option ℕ → Store

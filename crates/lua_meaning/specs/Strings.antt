@@ -14,11 +14,13 @@ place_in size (negsuc n) = size - n
 
 -- the bytes of a text from a place up to another one, as far as there are any
 abbrev pub part : Bytes → (first last : ℕ) → Bytes
-part text first last = take (min last (length text) - (max first 1 - 1)) (drop (max first 1 - 1) text)
+part text first last =
+    take (min last (length text) - (max first 1 - 1)) (drop (max first 1 - 1) text)
 
 -- a string, which has at most 16,777,216 bytes
 abbrev pub string_value : Bytes → Lib (List Value)
-string_value text = if nat_le (length text) longest_string then answer_one (str text) else fault (says (codes "string too long"))
+string_value text = if nat_le (length text) longest_string then
+    answer_one (str text) else fault (says (codes "string too long"))
 
 abbrev pub byte_value : ℕ → Value
 byte_value c = num (pos c)
@@ -67,7 +69,8 @@ begins_with (p ∷ ps) (c ∷ cs) = nat_eq p c && begins_with ps cs
 -- the place of the first part of a text that is a given one, from so many bytes on
 abbrev pub first_place : (wanted text : Bytes) → ℕ → Option ℕ
 first_place wanted [] passed = if begins_with wanted [] then Some (suc passed) else None
-first_place wanted (c ∷ cs) passed = if begins_with wanted (c ∷ cs) then Some (suc passed) else first_place wanted cs (suc passed)
+first_place wanted (c ∷ cs) passed =
+    if begins_with wanted (c ∷ cs) then Some (suc passed) else first_place wanted cs (suc passed)
 
 abbrev pub found_places : ℕ → Option ℕ → List Value
 found_places size None = nil ∷ []
@@ -92,8 +95,10 @@ find args = do
   s ← text_argument 0 args
   p ← text_argument 1 args
   init ← number_or 2 args (pos 1)
-  if is_pattern p && not (is_true (argument 3 args)) then fault (says (codes "patterns are not available"))
-      else answer (found_places (length p) (first_place p (drop (passed_over (length s) init) s) (passed_over (length s) init)))
+  if is_pattern p && not (is_true (argument 3 args)) then
+      fault (says (codes "patterns are not available"))
+      else answer (found_places (length p) (first_place p (drop (passed_over (length s) init) s)
+      (passed_over (length s) init)))
 
 -- `string.len(s)`
 abbrev pub len : List Value → Lib (List Value)
@@ -127,7 +132,8 @@ rep args = do
   s ← text_argument 0 args
   n ← number_argument 1 args
   if nat_eq (length s) 0 then answer_one (str [])
-      else (if nat_le (length s * count_of n) longest_string then answer_one (str (copies (count_of n) s)) else fault (says (codes "string too long")))
+      else (if nat_le (length s * count_of n) longest_string then
+      answer_one (str (copies (count_of n) s)) else fault (says (codes "string too long")))
 
 -- `string.reverse(s)`
 abbrev pub reversed : List Value → Lib (List Value)

@@ -23,7 +23,8 @@ set_items t n (v ∷ vs) s = set_items t (suc n) vs (raw_set s t (position_key n
 -- ---- concat
 
 abbrev pub no_text : Value → ℤ → Bytes
-no_text v i = codes "invalid value (" ++ (type_name v ++ (codes ") at index " ++ (signed_decimal i ++ codes " in table for 'concat'")))
+no_text v i = codes "invalid value (" ++ (type_name v ++ (codes ") at index " ++
+    (signed_decimal i ++ codes " in table for 'concat'")))
 
 abbrev pub text_at : Value → ℤ → Option Bytes → Lib Bytes
 text_at v i None = fault (says (no_text v i))
@@ -56,15 +57,18 @@ concat args = do
 -- moves
 abbrev pub inserted : ℕ → ℕ → Value → Store → Store
 inserted t n v s =
-    if nat_le n (border s t) then set_items t n (v ∷ drop (n - 1) (items s t (border s t))) s else raw_set s t (position_key n) v
+    if nat_le n (border s t) then set_items t n (v ∷ drop (n - 1) (items s t
+    (border s t))) s else raw_set s t (position_key n) v
 
 abbrev pub insert_at : ℕ → ℤ → Value → Lib (List Value)
 insert_at t (pos (suc n)) v = change (λ s. inserted t (suc n) v s) >> answer []
 insert_at t n v = fault (improper 1 (codes "position out of bounds"))
 
 abbrev pub insert_by : ℕ → (count : ℕ) → List Value → Lib (List Value)
-insert_by t (suc (suc (suc more))) args = number_argument 1 args >>= λ n. insert_at t n (argument 2 args)
-insert_by t count args = change (λ s. raw_set s t (position_key (suc (border s t))) (argument 1 args)) >> answer []
+insert_by t (suc (suc (suc more))) args =
+    number_argument 1 args >>= λ n. insert_at t n (argument 2 args)
+insert_by t count args =
+    change (λ s. raw_set s t (position_key (suc (border s t))) (argument 1 args)) >> answer []
 
 -- `table.insert(t, v)`, and with a third argument `table.insert(t, pos, v)`
 abbrev pub insert_item : List Value → Lib (List Value)
@@ -79,7 +83,8 @@ removed t n s = set_items t n (drop n (items s t (border s t)) ++ nil ∷ []) s
 abbrev pub remove_at : ℕ → ℕ → ℤ → Lib (List Value)
 remove_at t size (pos (suc n)) =
     if nat_le (suc n) size
-    then (look (λ s. raw_get s t (position_key (suc n))) >>= λ v. change (λ s. removed t (suc n) s) >> answer_one v)
+    then (look (λ s. raw_get s t (position_key (suc n))) >>=
+    λ v. change (λ s. removed t (suc n) s) >> answer_one v)
     else answer []
 remove_at t size n = answer []
 
@@ -157,4 +162,5 @@ abbrev pub sort : List Value → Lib (List Value)
 sort args = do
   t ← table_argument 0 args
   vs ← look (λ s. items s t (border s t))
-  if is_nil (argument 1 args) then sort_items t vs else fault (says (codes "'sort' takes no function"))
+  if is_nil (argument 1 args) then sort_items t vs else fault (says
+      (codes "'sort' takes no function"))

@@ -76,7 +76,8 @@ change f w = gives tt (record w { store = f w.store })
 
 abbrev pub answered : Ask → List Reply → World → Ends Reply
 answered ask [] w = needs ask w
-answered ask (reply ∷ replies) w = gives reply (record w { asks = w.asks ++ ask ∷ []; replies = replies })
+answered ask (reply ∷ replies) w =
+    gives reply (record w { asks = w.asks ++ ask ∷ []; replies = replies })
 
 -- asks, and gives the next reply
 abbrev pub asking : Ask → Act Reply
@@ -84,7 +85,11 @@ asking ask w = answered ask w.replies w
 
 -- a line of output, whole
 abbrev pub add_line : List ℕ → Act ⊤
-add_line line w = gives tt (record w { output = w.output ++ line; ends = w.ends ++ length (w.output ++ line) ∷ [] })
+add_line line w = gives tt (record w {
+  output =
+      w.output ++ line;
+  ends = w.ends ++ length (w.output ++ line) ∷ [];
+})
 
 -- the first value of a list, and a value as a list
 abbrev pub one : Act (List Value) → Act Value
