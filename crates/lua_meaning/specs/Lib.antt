@@ -4,6 +4,7 @@ pub mod Number
 pub mod Text
 pub mod Store
 pub mod Message
+pub mod MessageView
 pub mod World
 pub mod Fault
 pub mod Packing
