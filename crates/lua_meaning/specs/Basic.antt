@@ -173,8 +173,9 @@ tonumber args = do
   base ← number_or 1 args (pos 10)
   if same (num base) (num (pos 10)) then answer_one (to_number (argument 0 args)) else (do
     text ← text_argument 0 args
-    if is_base base then answer_one (number_value (read_in (base_number base) text)) else fault
-        (improper 1 (codes "base out of range")))
+    if is_base base
+        then answer_one (number_value (read_in (base_number base) text))
+        else fault (improper 1 (codes "base out of range")))
 
 -- `type(v)`
 abbrev pub type : List Value → Lib (List Value)

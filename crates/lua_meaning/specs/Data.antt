@@ -23,8 +23,9 @@ part_of whole (pos offset) (pos size) =
     new_data (part whole offset size) else fault (improper 2 (codes "out of bounds")))
     else fault (improper 1 (codes "out of bounds"))
 part_of whole (pos offset) (negsuc size) =
-    if nat_le offset (length whole.bytes) then fault (improper 2
-    (codes "out of bounds")) else fault (improper 1 (codes "out of bounds"))
+    if nat_le offset (length whole.bytes)
+    then fault (improper 2 (codes "out of bounds"))
+    else fault (improper 1 (codes "out of bounds"))
 part_of whole (negsuc offset) size = fault (improper 1 (codes "out of bounds"))
 
 -- what follows an offset; an offset that isn't one is refused afterwards

@@ -93,8 +93,9 @@ set_by_handler base h next = if is_function h then asks_set h base else next h
 -- a table that has a value for the key keeps to itself
 abbrev pub set_by_own : Store → (base key : Value) → (Value → Setting) → Setting
 set_by_own s (table t) key next =
-    if is_nil (raw_get s t key) then set_by_handler (table t) (handler s (table t)
-    (codes "__newindex")) next else in_table t
+    if is_nil (raw_get s t key)
+    then set_by_handler (table t) (handler s (table t) (codes "__newindex")) next
+    else in_table t
 set_by_own s base key next = set_by_handler base (handler s base (codes "__newindex")) next
 
 abbrev pub setting_within : ℕ → Store → (key base : Value) → Setting

@@ -64,5 +64,6 @@ abbrev pub fmod : List Value → Lib (List Value)
 fmod args = do
   a ← number_argument 0 args
   b ← number_argument 1 args
-  if nat_eq (unsigned_abs b) 0 then fault (says (codes "number has no whole value")) else
-      answer_one (num (remainder a (unsigned_abs b)))
+  if nat_eq (unsigned_abs b) 0
+      then fault (says (codes "number has no whole value"))
+      else answer_one (num (remainder a (unsigned_abs b)))

@@ -99,8 +99,9 @@ behind_two text = []
 -- a numeral (manual §2.1), whose value is exact
 abbrev pub numeral : List ℕ → Option ℤ
 numeral text =
-    if begins_hexadecimal text then option_and_then kept (digits_number 16
-    (behind_two text)) else decimal_numeral text
+    if begins_hexadecimal text
+    then option_and_then kept (digits_number 16 (behind_two text))
+    else decimal_numeral text
 
 -- a text as a number: blanks, an optional sign, a numeral, blanks
 abbrev pub read : List ℕ → Option ℤ

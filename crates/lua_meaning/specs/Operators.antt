@@ -32,8 +32,9 @@ binary_handler s event a b = or_else (handler s a event) (handler s b event)
 -- the handler of two tables that have the same one, nil for other values
 abbrev pub shared_handler : Store → Bytes → Value → Value → Value
 shared_handler s event (table a) (table b) =
-    if same (handler s (table a) event) (handler s (table b) event) then
-    handler s (table a) event else nil
+    if same (handler s (table a) event) (handler s (table b) event)
+    then handler s (table a) event
+    else nil
 shared_handler s event a b = nil
 
 -- the order of two numbers, and of two strings by bytes; other values have none of their own
@@ -86,8 +87,9 @@ module _ (again : Later) (here : Here) (line : ℕ) where
 
   abbrev pub by_texts : Value → Value → Option Bytes → Option Bytes → Act Value
   by_texts a b (Some x) (Some y) =
-      if nat_le (length x + length y) longest_string then
-      give (str (x ++ y)) else fault_at here line (codes "string too long")
+      if nat_le (length x + length y) longest_string
+      then give (str (x ++ y))
+      else fault_at here line (codes "string too long")
   by_texts a b x y =
       look (λ s. binary_handler s (codes "__concat") a b) >>=
       λ h. ask_or_fault h (concat_text (first_no_text x a b)) (a ∷ b ∷ [])

@@ -109,8 +109,9 @@ while_true again here env e b v =
 abbrev pub until : Later → Here → (before : Env) → Block → Expr → Flow → Act Flow
 until again here before b e (normal env) = do
   v ← one (eval again here e env)
-  if is_true v then give (normal (outer before env)) else again (repeat_turn here
-      (outer before env) b e)
+  if is_true v
+      then give (normal (outer before env))
+      else again (repeat_turn here (outer before env) b e)
 until again here before b e (broken env) = give (normal (outer before env))
 until again here before b e (returned vs) = give (returned vs)
 

@@ -57,8 +57,9 @@ concat args = do
 -- moves
 abbrev pub inserted : ℕ → ℕ → Value → Store → Store
 inserted t n v s =
-    if nat_le n (border s t) then set_items t n (v ∷ drop (n - 1) (items s t
-    (border s t))) s else raw_set s t (position_key n) v
+    if nat_le n (border s t)
+    then set_items t n (v ∷ drop (n - 1) (items s t (border s t))) s
+    else raw_set s t (position_key n) v
 
 abbrev pub insert_at : ℕ → ℤ → Value → Lib (List Value)
 insert_at t (pos (suc n)) v = change (λ s. inserted t (suc n) v s) >> answer []
@@ -162,5 +163,6 @@ abbrev pub sort : List Value → Lib (List Value)
 sort args = do
   t ← table_argument 0 args
   vs ← look (λ s. items s t (border s t))
-  if is_nil (argument 1 args) then sort_items t vs else fault (says
-      (codes "'sort' takes no function"))
+  if is_nil (argument 1 args)
+      then sort_items t vs
+      else fault (says (codes "'sort' takes no function"))
