@@ -266,6 +266,8 @@ GROUPS["Channels"] = ("asks of Channels and their replies (LÖVE wiki, `Channel`
         replies=[C1, "Reply.id 1", "Reply.value hello_message"], asks=[NEW, "Ask.push 1 hello_message", "Ask.pop 1"]),
     Row("names", "local c = love.thread.getChannel('x')\nprint(c == love.thread.getChannel('x'), c, c:typeOf('Object'), c.nothing)", "true\tChannel\ttrue\tnil\n", replies=[C1, C1],
         asks=["Ask.name (codes \"x\")", "Ask.name (codes \"x\")"]),
+    Row("deep_tables", "local c, t = love.thread.newChannel(), {}\nfor i = 1, 127 do t = {t} end\nprint(pcall(c.push, c, t))\nt = {t}\nprint(pcall(c.push, c, t))", "true\t1\nfalse\tcannot send tables nested over 128 deep\n",
+        replies=[C1, "Reply.id 1"]),
     Row("bad_objects", "local c = love.thread.newChannel()\nprint(pcall(c.push))\nprint(pcall(c.hasRead, c, 'x'))", "false\tbad argument #0 to 'push' (Channel expected, got nil)\nfalse\tbad argument #1 to 'hasRead' (number expected, got string)\n", replies=[C1]),
 ])
 

@@ -1,17 +1,17 @@
 -- Locals, calls and operators are lawful.
-use Rattle.std.proofs.Common.{ℕ, zero, suc, ◌+◌, ◌≤◌, ◌≡◌, refl, List, [], ◌∷◌, ◌++◌, length, Bool, true, false, if◌then◌else◌, Option, Some, None, Result, Ok, Err, arith, ℤ}
+use Rattle.std.proofs.Common.{ℕ, ◌+◌, List, [], ◌∷◌, length, Bool, true, false, Option, Some, None, Result, Ok, Err, arith, ℤ}
 use Rattle.lua_value.specs.declared.arithmetic.NumFault.{NumFault}
 use Rattle.lua_tree.specs.Tree.{Bytes, Func, UnOp, BinOp}
-use Rattle.lua_meaning.specs.Value.{Value, nil, flag, num, str, table, func, native, channel, thread, datum, first}
-use Rattle.lua_meaning.specs.World.{World, Act, give, raise, look, change, tick}
+use Rattle.lua_meaning.specs.Value.{Value, nil, str, table, func}
+use Rattle.lua_meaning.specs.World.{Act}
 use Rattle.lua_meaning.specs.Fault.{Place}
-use Rattle.lua_meaning.specs.Locals.{Env, Slot, held, cell, Flow, normal, broken, returned, slot_value, set_slot, set_found, set_local, find, make_slot, declare, in_scope, go_on, make_function, values_of, cells_of}
+use Rattle.lua_meaning.specs.Locals.{Env, Slot, held, cell, Flow, normal, broken, returned, slot_value, set_slot, set_found, set_local, find, make_slot, declare, in_scope, go_on, make_function, cells_of}
 use Rattle.lua_meaning.specs.Names.{func_names}
-use Rattle.lua_meaning.specs.Store.{Store, Closure, add_cell, add_closure}
-use Rattle.lua_meaning.specs.Calls.{Calls, Here, Callee, Task, invoke, Later, fault_at, results, enter, enter_called, call, call_at, call_back, place}
+use Rattle.lua_meaning.specs.Store.{add_cell, add_closure}
+use Rattle.lua_meaning.specs.Calls.{Calls, Here, Callee, Task, Later, fault_at, results, enter, enter_called, call, call_at, call_back, place}
 use Rattle.lua_meaning.specs.Handlers.{Lookup, found, asks, unindexed, endless, Setting, in_table, asks_set, unindexed_set, endless_set}
-use Rattle.lua_meaning.specs.Operators.{ask_handler, ask_or_fault, exact, by_numbers, calculate, by_number, negative, by_texts, concatenate, size, truth, untruth, equal_by, equal, unequal, less_by, less, not_greater, up_to_by, up_to_known, up_to, unary_value, binary_value, operate, looked_up, field, set_raw, set_by, set_field}
-use Rattle.lua_meaning.proofs.Lawful.{Lawful, chain, costs, followed, behind, either, gives_lawful, raises_lawful, looks, changes, ticked, ones, singles}
+use Rattle.lua_meaning.specs.Operators.{ask_handler, ask_or_fault, exact, by_numbers, calculate, by_number, by_texts, size, truth, untruth, equal_by, equal, less_by, less, not_greater, up_to_by, up_to_known, up_to, unary_value, binary_value, operate, looked_up, field, set_raw, set_by, set_field}
+use Rattle.lua_meaning.proofs.Lawful.{Lawful, chain, costs, followed, behind, either, gives_lawful, raises_lawful, looks, changes, ticked, ones}
 
 -- ---- locals
 

@@ -1,15 +1,14 @@
 -- Expressions and statements are lawful.
-use Rattle.std.proofs.Common.{ℕ, zero, suc, ◌+◌, ◌≤◌, ◌≡◌, refl, List, [], ◌∷◌, ◌++◌, length, Bool, true, false, if◌then◌else◌, Option, Some, None, arith, ℤ}
-use Rattle.lua_tree.specs.Tree.{Bytes, Expr, Exprs, no_exprs, expr_and, Fields, no_fields, item_and, keyed_and, Func, Block, no_stats, stat_and, Stat, Arms, no_else, else_block, arm_and}
+use Rattle.std.proofs.Common.{ℕ, ◌+◌, List, [], ◌∷◌, length, Option, Some, None, arith, ℤ}
+use Rattle.lua_tree.specs.Tree.{Bytes, Expr, Exprs, no_exprs, expr_and, Fields, no_fields, item_and, keyed_and, Block, no_stats, stat_and, Stat, Arms, no_else, else_block, arm_and}
 use Rattle.lua_meaning.specs.Value.{Value, is_true}
-use Rattle.lua_meaning.specs.Store.{Store, add_table}
+use Rattle.lua_meaning.specs.Store.{add_table}
 use Rattle.lua_meaning.specs.Tables.{set_items}
-use Rattle.lua_meaning.specs.World.{World, Act}
-use Rattle.lua_meaning.specs.Locals.{Env, Slot, Flow}
-use Rattle.lua_meaning.specs.Calls.{Calls, Here, Callee, Task, Later}
+use Rattle.lua_meaning.specs.Locals.{Env, Slot}
+use Rattle.lua_meaning.specs.Calls.{Here, Later}
 use Rattle.lua_meaning.specs.Expressions.{name_value, join, item_values, eval, evals, fill}
 use Rattle.lua_meaning.specs.Statements.{Target, local_target, field_target, no_target, target, targets, assign_to, assign_all, wants_number, for_numbers, exec, choose, block}
-use Rattle.lua_meaning.proofs.Lawful.{Lawful, chain, costs, free, followed, behind, either, gives_lawful, raises_lawful, looks, changes, ticked, ones, singles, acts}
+use Rattle.lua_meaning.proofs.Lawful.{Lawful, chain, costs, free, followed, behind, either, gives_lawful, looks, changes, ticked, ones, singles, acts}
 use Rattle.lua_meaning.proofs.Calling.{Paid, slot_lawful, set_local_lawful, declare_lawful, in_scope_lawful, go_on_lawful, make_function_lawful, fault_lawful, call_at_lawful, unary_lawful, operate_lawful, field_lawful, set_raw_lawful, set_field_lawful}
 
 module _ (again : Later) (h : Paid again) (here : Here) where

@@ -1,23 +1,21 @@
 -- The functions of the library are lawful, with at most two asks.
-use Rattle.std.proofs.Common.{ℕ, zero, suc, ◌+◌, ◌≤◌, ◌≡◌, refl, List, [], ◌∷◌, ◌++◌, length, drop, Bool, true, false, if◌then◌else◌, Option, Some, None, Result, Ok, Err, arith, ℤ, pos, codes, nat_eq}
+use Rattle.std.proofs.Common.{ℕ, ◌+◌, refl, List, [], ◌∷◌, Option, Some, None, Result, Ok, Err, arith, nat_eq}
 use Rattle.love_base.specs.Data.{Contents}
-use Rattle.lua_tree.specs.Tree.{Bytes, Block}
-use Rattle.variant.specs.declared.reply.Refusal.{Refusal}
+use Rattle.lua_tree.specs.Tree.{Bytes}
 use Rattle.lua_meaning.specs.Native.{Native}
-use Rattle.lua_meaning.specs.Value.{Value, nil, flag, num, str, table, func, native, channel, thread, datum}
+use Rattle.lua_meaning.specs.Value.{Value, nil}
 use Rattle.lua_meaning.specs.Store.{Store}
-use Rattle.lua_meaning.specs.Message.{Message, Source, Event, Ask, Reply}
+use Rattle.lua_meaning.specs.Message.{Message, Event, Ask, Reply}
 use Rattle.lua_meaning.specs.Packing.{PackFault}
-use Rattle.lua_meaning.specs.World.{World, Module, begun, loaded, Act, Ends, Outcome, given, failed, catching, give, raise, asking, ◌>>=◌, ◌>>>◌}
-use Rattle.lua_meaning.specs.Arguments.{Lib, Answer, answers, faults, argument}
-use Rattle.lua_meaning.specs.Locals.{Flow, returned}
-use Rattle.lua_meaning.specs.Calls.{Calls, Callee, Task, Later}
+use Rattle.lua_meaning.specs.World.{World, Module, begun, loaded, Act, Outcome, given, failed, give, asking, ◌>>=◌}
+use Rattle.lua_meaning.specs.Arguments.{Lib, Answer, answers, faults}
+use Rattle.lua_meaning.specs.Calls.{Calls, Later}
 use Rattle.lua_meaning.specs.Control as control
 use Rattle.lua_meaning.specs.Control.{Game, File, Code, ready, faulty, not_lua}
 use Rattle.lua_meaning.specs.Love as love
 use Rattle.lua_meaning.specs.Library.{library as library_function}
 use Rattle.lua_meaning.specs.Running.{run_library}
-use Rattle.lua_meaning.proofs.Lawful.{Lawful, Step, Extended, with_more, same_prefix, chain, costs, free, followed, behind, either, gives_lawful, raises_lawful, looks, changes, asks, catches, adds_line, ticked, ones, singles, acts}
+use Rattle.lua_meaning.proofs.Lawful.{Lawful, Step, Extended, with_more, same_prefix, chain, costs, free, followed, behind, either, gives_lawful, raises_lawful, looks, changes, asks, catches, adds_line, ticked, ones}
 use Rattle.lua_meaning.proofs.Calling.{Paid, results_lawful, enter_lawful, call_back_lawful}
 
 -- ---- what they have in common

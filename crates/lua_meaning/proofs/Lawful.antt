@@ -1,11 +1,11 @@
 -- Acts that add no ticks, whose asks and output only grow, and that more replies only extend; and what keeps acts so.
-use Rattle.std.proofs.Common.{ℕ, zero, suc, ◌+◌, ◌*◌, ◌≤◌, ◌≡◌, refl, sym, ap, ◌∙◌, subst, List, [], ◌∷◌, ◌++◌, length, Bool, true, false, if◌then◌else◌, Option, Some, None, arith, append_assoc}
+use Rattle.std.proofs.Common.{ℕ, zero, suc, ◌+◌, ◌*◌, ◌≤◌, ◌≡◌, refl, sym, ap, ◌∙◌, subst, List, [], ◌∷◌, ◌++◌, length, Bool, true, false, if◌then◌else◌, arith, append_assoc}
 use Rattle.std.proofs.lemmas.List.{append-nil, length-append}
 use Rattle.love_base.specs.Prefix.{IsPrefix}
 use Rattle.lua_meaning.specs.Value.{Value}
 use Rattle.lua_meaning.specs.Store.{Store}
 use Rattle.lua_meaning.specs.Message.{Ask, Reply}
-use Rattle.lua_meaning.specs.World.{World, Ends, gives, fails, out_of_steps, needs, Act, ◌>>>◌, ◌>>=◌, ◌>>◌, give, raise, take_tick, tick, look, change, answered, asking, add_line, one, single, Outcome, caught, catching}
+use Rattle.lua_meaning.specs.World.{World, Ends, gives, fails, out_of_steps, needs, Act, ◌>>>◌, ◌>>=◌, ◌>>◌, give, raise, take_tick, tick, look, change, answered, asking, add_line, one, single, caught, catching}
 use Rattle.lua_meaning.specs.Laws.{left}
 
 -- ---- prefixes

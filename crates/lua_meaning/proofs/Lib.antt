@@ -4,3 +4,4 @@ pub mod Evaluating
 pub mod Functions
 pub mod Runs
 pub mod of_rows
+pub mod Views

@@ -1,5 +1,5 @@
 -- Tasks are lawful at every number of ticks, and so are runs.
-use Rattle.std.proofs.Common.{ℕ, zero, suc, ◌+◌, ◌*◌, ◌-◌, ◌≤◌, ◌≡◌, refl, sym, ap, subst, List, [], ◌∷◌, ◌++◌, length, Bool, true, false, if◌then◌else◌, Option, Some, None, Result, Ok, Err, arith, ℤ}
+use Rattle.std.proofs.Common.{ℕ, zero, suc, ◌+◌, ◌*◌, ◌-◌, ◌≤◌, ◌≡◌, refl, sym, ap, subst, List, [], ◌∷◌, length, false, Result, Ok, Err, arith, ℤ}
 use Rattle.lua_value.specs.Arithmetic.{add}
 use Rattle.lua_value.specs.declared.arithmetic.NumFault.{NumFault}
 use Rattle.love_base.specs.Prefix.{IsPrefix}
@@ -13,10 +13,10 @@ use Rattle.lua_meaning.specs.Locals.{Env, Flow, normal, broken, returned}
 use Rattle.lua_meaning.specs.Calls.{Calls, Here, Callee, made, library, chunk, Task, invoke, while_turn, repeat_turn, count_turn, each_turn, clear_turn, Later}
 use Rattle.lua_meaning.specs.Control.{Game, Code, ready, faulty, not_lua}
 use Rattle.lua_meaning.specs.Running.{run_function, run_callee, looped, turn, while_true, until, counted, count_on, each_on, task, within}
-use Rattle.lua_meaning.specs.Run.{Start, Run, End, done, failed, no_steps, waits, first_store, first_world, run_of, ended, meant, run_code, run}
+use Rattle.lua_meaning.specs.Run.{Start, no_steps, first_store, first_world, run_of, ended, meant, run_code, run}
 use Rattle.lua_meaning.specs.Packing.{unpack_all}
 use Rattle.lua_meaning.specs.Laws.{left, Grows, Extends, waiting, with_replies}
-use Rattle.lua_meaning.proofs.Lawful.{Lawful, Step, Extended, Onward, pending, with_more, same_prefix, chain, costs, free, followed, behind, either, gives_lawful, ticked, ones}
+use Rattle.lua_meaning.proofs.Lawful.{Lawful, Step, Extended, pending, same_prefix, chain, costs, free, followed, either, gives_lawful, ticked, ones}
 use Rattle.lua_meaning.proofs.Calling.{Paid, declare_lawful, in_scope_lawful, call_at_lawful}
 use Rattle.lua_meaning.proofs.Evaluating.{eval_lawful, block_lawful}
 use Rattle.lua_meaning.proofs.Functions.{run_library_lawful, clear_lawful}

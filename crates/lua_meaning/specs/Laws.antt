@@ -1,7 +1,11 @@
 -- What holds of every run.
-use Rattle.std.specs.Prelude.{ℕ, zero, suc, ◌+◌, ◌*◌, ◌-◌, ◌≤◌, ◌≡◌, List, [], ◌∷◌, ◌++◌, length}
+use Rattle.std.specs.Prelude.{ℕ, ◌+◌, ◌*◌, ◌-◌, ◌≤◌, ◌≡◌, List, ◌++◌, length, Bool, ℤ, map}
+use Rattle.love_base.specs.Data.{Contents}
 use Rattle.love_base.specs.Prefix.{IsPrefix}
-use Rattle.lua_meaning.specs.Message.{Ask, Reply}
+use Rattle.variant.specs.declared.message.Variant.{Variant}
+use Rattle.variant.specs.declared.message.Variant.TheVariants as variant
+use Rattle.lua_meaning.specs.Message.{Message, Reply}
+use Rattle.lua_meaning.specs.MessageView.{message_view, pairs_of}
 use Rattle.lua_meaning.specs.World.{World, Ends, gives, fails, out_of_steps, needs}
 use Rattle.lua_meaning.specs.Calls.{Task}
 use Rattle.lua_meaning.specs.Control.{Game}
@@ -62,3 +66,16 @@ IsWaiting end = waiting end ≡ 1
 abbrev pub EndsStay : Type 0
 EndsStay = (start : Start) (more : List Reply) → waiting (run start).end ≡ 0 →
     run (with_replies start more) ≡ run start
+
+-- how a message of crate `variant` is seen, case by case
+pub record MessagesSeen : Type 0 where
+  pub nil_seen : message_view variant.Nil ≡ Message.nil
+  pub flag_seen : (b : Bool) → message_view (variant.Bool b) ≡ Message.flag b
+  pub num_seen : (n : ℤ) → message_view (variant.Num n) ≡ Message.num n
+  pub text_seen : (text : List ℕ) → message_view (variant.Bytes text) ≡ Message.str text
+  pub data_seen : (contents : Contents) → message_view (variant.Data contents) ≡ Message.datum contents
+  pub channel_seen : (number : ℕ) → message_view (variant.Channel number) ≡ Message.channel number
+  pub table_seen :
+      (pairs : List (Variant × Variant)) →
+      message_view (variant.Table pairs)
+      ≡ Message.table (pairs_of (map (λ pair. (message_view pair.0, message_view pair.1)) pairs))

@@ -1,12 +1,11 @@
 -- What the messages, asks and replies of crate `variant` are to these definitions.
-use Rattle.std.specs.Prelude.{ℕ, List, [], ◌∷◌, map, Option}
+use Rattle.std.specs.Prelude.{List, [], ◌∷◌, map}
 use Rattle.variant.specs.declared.message.Variant.{Variant, fold-Variant}
 use Rattle.variant.specs.declared.message.Variant.TheOpen.{Variant-F}
 use Rattle.variant.specs.declared.source.Source as code
 use Rattle.variant.specs.declared.source.Source.TheVariants as sources
 use Rattle.variant.specs.declared.event.Event as happening
 use Rattle.variant.specs.declared.event.Event.TheVariants as events
-use Rattle.variant.specs.declared.event.Sent as sending
 use Rattle.variant.specs.declared.ask.Ask as question
 use Rattle.variant.specs.declared.ask.Ask.TheVariants as asks
 use Rattle.variant.specs.declared.reply.Reply as answer

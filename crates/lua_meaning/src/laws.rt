@@ -1,6 +1,6 @@
 //! Laws of the definitions, each the contract of a function that does nothing.
 
-ghost use Rattle.lua_meaning.specs.Laws.{EachGrows, RunsSpend, AsksAreFew, RepliesExtend, EndsStay};
+ghost use Rattle.lua_meaning.specs.Laws.{EachGrows, RunsSpend, AsksAreFew, RepliesExtend, EndsStay, MessagesSeen};
 
 /// No part of a program adds ticks, and its output grows only.
 pub fn each_grows()
@@ -25,4 +25,9 @@ pub fn replies_extend()
 /// A run that doesn't wait for a reply is the same with more replies.
 pub fn ends_stay()
     ensures { EndsStay }
+{}
+
+/// How the messages of crate `variant` are seen by the definitions, case by case.
+pub fn messages_seen()
+    ensures { MessagesSeen }
 {}

@@ -1,8 +1,8 @@
 -- Rows: asks of Channels and their replies (LÖVE wiki, `Channel`). Written by checks/meaning-rows/write.py.
-use Rattle.std.proofs.Common.{◌≡◌, refl}
+use Rattle.std.proofs.Common.{refl}
 use Rattle.std.specs.Fmt.{digits}
 use Rattle.lua_value.specs.Arithmetic.{power}
-use Rattle.lua_meaning.specs.rows.Channels.{Rows, Counts, FirstAsk, AfterReply, Clears, OddIds, NilMessage, Copied, NotSent, Sections, WaitsInside, SectionResults, RefusedPush, Demanding, Timeouts, Supplied, DataValues, Names, BadObjects}
+use Rattle.lua_meaning.specs.rows.Channels.{Rows, Counts, FirstAsk, AfterReply, Clears, OddIds, NilMessage, Copied, NotSent, Sections, WaitsInside, SectionResults, RefusedPush, Demanding, Timeouts, Supplied, DataValues, Names, DeepTables, BadObjects}
 
 counts : Counts
 unfolding digits power
@@ -72,6 +72,10 @@ names : Names
 unfolding digits power
 names = refl
 
+deep_tables : DeepTables
+unfolding digits power
+deep_tables = refl
+
 bad_objects : BadObjects
 unfolding digits power
 bad_objects = refl
@@ -96,5 +100,6 @@ rows_of_channels = record {
   supplied = supplied;
   data_values = data_values;
   names = names;
+  deep_tables = deep_tables;
   bad_objects = bad_objects;
 }

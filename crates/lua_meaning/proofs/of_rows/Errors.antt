@@ -1,5 +1,5 @@
 -- Rows: errors, their places, and pcall (manual §2.7, §5.1). Written by checks/meaning-rows/write.py.
-use Rattle.std.proofs.Common.{◌≡◌, refl}
+use Rattle.std.proofs.Common.{refl}
 use Rattle.std.specs.Fmt.{digits}
 use Rattle.lua_value.specs.Arithmetic.{power}
 use Rattle.lua_meaning.specs.rows.Errors.{Rows, Levels, LevelOne, ErrorValues, LevelTwoPcall, MainLevelTwo, PcallPcall, NotCalled, OperatorPlaces, CompareTexts, IndexTexts, NilKey, NumberFaults, ForTexts, ObjectEnd, NumberEnd, TextEnd, LibraryPlace, AssertPlain, HandlerError, ErrorThrough, Overflow, OverflowCaught, IteratorPlace, MethodPlace}

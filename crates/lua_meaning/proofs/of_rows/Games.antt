@@ -1,5 +1,5 @@
 -- Rows: modules, files, threads and events (LÖVE wiki, `love`). Written by checks/meaning-rows/write.py.
-use Rattle.std.proofs.Common.{◌≡◌, refl}
+use Rattle.std.proofs.Common.{refl}
 use Rattle.std.specs.Fmt.{digits}
 use Rattle.lua_value.specs.Arithmetic.{power}
 use Rattle.lua_meaning.specs.rows.Games.{Rows, Modules, ModuleCircle, FaultyModule, Reads, Threads, TooMany, ThreadState, Events, ClearTicks, Quits, Budget, AloneBudget}

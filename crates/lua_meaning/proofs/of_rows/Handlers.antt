@@ -1,5 +1,5 @@
 -- Rows: metamethods (manual §2.8). Written by checks/meaning-rows/write.py.
-use Rattle.std.proofs.Common.{◌≡◌, refl}
+use Rattle.std.proofs.Common.{refl}
 use Rattle.std.specs.Fmt.{digits}
 use Rattle.lua_value.specs.Arithmetic.{power}
 use Rattle.lua_meaning.specs.rows.Handlers.{Rows, IndexCall, Chain, IndexLoop, NewindexTable, ArithmeticEvents, FirstOperand, Equality, OrderEvents, LeEvent, ConcatMiddle, TostringEvent, TostringBad, Protected, TextMethods, CallChain, HandlerCalled, Raw, LengthIgnored}

@@ -1,5 +1,5 @@
 -- Rows: functions of the library (manual §5). Written by checks/meaning-rows/write.py.
-use Rattle.std.proofs.Common.{◌≡◌, refl}
+use Rattle.std.proofs.Common.{refl}
 use Rattle.std.specs.Fmt.{digits}
 use Rattle.lua_value.specs.Arithmetic.{power}
 use Rattle.lua_meaning.specs.rows.Library.{Rows, Format, FormatMore, FormatFaults, Numbers, TonumberMore, Sorted, SortTexts, NoPatterns, Found, Subs, Bytes, Insertions, Removals, Joins, Maxn, Walks, ClearedWalk, NextFaults, IpairsStop, Selects, Unpacks, Maths, Types, Absent, ConcatNumbers, TextOrder, TooLong, Remainders}

@@ -1,5 +1,5 @@
 -- Rows: order of evaluation, assignment and lists (manual §2.4.3, §2.5). Written by checks/meaning-rows/write.py.
-use Rattle.std.proofs.Common.{◌≡◌, refl}
+use Rattle.std.proofs.Common.{refl}
 use Rattle.std.specs.Fmt.{digits}
 use Rattle.lua_value.specs.Arithmetic.{power}
 use Rattle.lua_meaning.specs.rows.Order.{Rows, Swap, Operands, Arguments, Fields, Targets, LastFirst, SameTarget, AndOr, Middle, Fewer, Varargs, Powers, Greater, MethodOrder, ConcatOrder}

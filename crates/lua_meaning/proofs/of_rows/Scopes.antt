@@ -1,5 +1,5 @@
 -- Rows: locals, closures and loops (manual §2.4, §2.6). Written by checks/meaning-rows/write.py.
-use Rattle.std.proofs.Common.{◌≡◌, refl}
+use Rattle.std.proofs.Common.{refl}
 use Rattle.std.specs.Fmt.{digits}
 use Rattle.lua_value.specs.Arithmetic.{power}
 use Rattle.lua_meaning.specs.rows.Scopes.{Rows, LoopClosures, Shared, Hidden, RepeatScope, RepeatCaptured, Recursive, WhileClosures, EachClosures, BreakOuter, ReturnInner, Downwards, TextFor, ChangedCounter, LastNumbers, Globals, NamedFunctions, NoCells, LoopCells, ParameterCells, TwiceDeclared, ElseArms}

@@ -1,5 +1,5 @@
 -- Rows: ticks: a statement, a turn of a loop and a call take one each. Written by checks/meaning-rows/write.py.
-use Rattle.std.proofs.Common.{◌≡◌, refl}
+use Rattle.std.proofs.Common.{refl}
 use Rattle.std.specs.Fmt.{digits}
 use Rattle.lua_value.specs.Arithmetic.{power}
 use Rattle.lua_meaning.specs.rows.Ticks.{Rows, Ten, Nine, Six, Five, OnePrint, OneShort, ForEver, Nothing, PcallTicks, PcallShort, HandlerTicks, HandlerShort, TableHandlerTicks, CallEventTicks, NotCalledTicks, EachTicks, EachShort, RepeatTicks, StatementTicks, TostringTicks}

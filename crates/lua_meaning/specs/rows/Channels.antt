@@ -1,13 +1,12 @@
 -- Rows: asks of Channels and their replies (LÖVE wiki, `Channel`). Written by checks/meaning-rows/write.py.
-use Rattle.std.specs.Prelude.{ℕ, ℤ, pos, negsuc, true, false, List, [], ◌∷◌, Option, Some, None, codes}
-use Rattle.love_base.specs.Data.{Contents}
-use Rattle.variant.specs.declared.reply.Refusal.TheVariants.{Full, WouldWaitInside, TooManyRunning, GameEnded}
+use Rattle.std.specs.Prelude.{ℕ, pos, negsuc, true, false, List, [], ◌∷◌, Some, None, codes}
+use Rattle.variant.specs.declared.reply.Refusal.TheVariants.{Full, WouldWaitInside}
 use Rattle.lua_tree.specs.Tree as t
 use Rattle.lua_tree.specs.Tree.{Block}
-use Rattle.lua_meaning.specs.Message.{Message, Source, Event, Ask, Reply, pair_and, no_pairs}
-use Rattle.lua_meaning.specs.Control.{Code, ready, faulty, not_lua}
-use Rattle.lua_meaning.specs.Run.{Run, End, done, failed, no_steps, waits}
-use Rattle.lua_meaning.specs.rows.Comes.{Comes, pair_message, hello_message, quit_event}
+use Rattle.lua_meaning.specs.Message.{Message, Ask, Reply}
+use Rattle.lua_meaning.specs.Control.{ready}
+use Rattle.lua_meaning.specs.Run.{End, done, failed, waits}
+use Rattle.lua_meaning.specs.rows.Comes.{Comes, pair_message, hello_message}
 
 -- ---- programs
 
@@ -312,6 +311,29 @@ names_program = (t.stat_and (t.local 1 ((codes "c") ∷ []) (t.expr_and (t.call 
     (codes "x")) t.no_exprs))) (t.expr_and (t.name 2 (codes "c")) (t.expr_and (t.method 2 (t.name 2
     (codes "c")) (codes "typeOf") (t.expr_and (t.str 2 (codes "Object")) t.no_exprs)) (t.expr_and
     (t.index 2 (t.name 2 (codes "c")) (t.str 2 (codes "nothing"))) t.no_exprs)))))) t.no_stats))
+
+-- `deep_tables`:
+--     local c, t = love.thread.newChannel(), {}
+--     for i = 1, 127 do t = {t} end
+--     print(pcall(c.push, c, t))
+--     t = {t}
+--     print(pcall(c.push, c, t))
+abbrev pub deep_tables_program : Block
+deep_tables_program =
+    (t.stat_and (t.local 1 ((codes "c") ∷ (codes "t") ∷ []) (t.expr_and (t.call 1 (t.index 1
+    (t.index 1 (t.name 1 (codes "love")) (t.str 1 (codes "thread"))) (t.str 1
+    (codes "newChannel"))) t.no_exprs) (t.expr_and (t.table 1 t.no_fields) t.no_exprs)))
+    (t.stat_and (t.num_for 2 (codes "i") (t.number 2 (pos 1)) (t.number 2 (pos 127)) (t.stat_and
+    (t.assign 2 (t.expr_and (t.name 2 (codes "t")) t.no_exprs) (t.expr_and (t.table 2 (t.item_and
+    (t.name 2 (codes "t")) t.no_fields)) t.no_exprs)) t.no_stats)) (t.stat_and (t.call_stat 3
+    (t.call 3 (t.name 3 (codes "print")) (t.expr_and (t.call 3 (t.name 3 (codes "pcall"))
+    (t.expr_and (t.index 3 (t.name 3 (codes "c")) (t.str 3 (codes "push"))) (t.expr_and (t.name 3
+    (codes "c")) (t.expr_and (t.name 3 (codes "t")) t.no_exprs)))) t.no_exprs))) (t.stat_and
+    (t.assign 4 (t.expr_and (t.name 4 (codes "t")) t.no_exprs) (t.expr_and (t.table 4 (t.item_and
+    (t.name 4 (codes "t")) t.no_fields)) t.no_exprs)) (t.stat_and (t.call_stat 5 (t.call 5
+    (t.name 5 (codes "print")) (t.expr_and (t.call 5 (t.name 5 (codes "pcall")) (t.expr_and
+    (t.index 5 (t.name 5 (codes "c")) (t.str 5 (codes "push"))) (t.expr_and (t.name 5 (codes "c"))
+    (t.expr_and (t.name 5 (codes "t")) t.no_exprs)))) t.no_exprs))) t.no_stats)))))
 
 -- `bad_objects`:
 --     local c = love.thread.newChannel()
@@ -645,6 +667,23 @@ Names = Comes {A = List ℕ × End × List Ask} (λ r. (r.output, r.end, r.asks)
       (codes "x") ∷ []),
 )
 
+abbrev pub DeepTables : Type 0
+DeepTables = Comes {A =
+    List ℕ × End} (λ r. (r.output, r.end)) (record {
+      game = record {
+        files =
+            ([]);
+        state = 0;
+      };
+      file = codes "a.lua";
+      code = ready deep_tables_program;
+      args =
+          ([]);
+      ticks = 1000;
+      replies = (Reply.channel 1 ∷ Reply.id 1 ∷ []);
+    })
+    ((codes "true\t1\nfalse\tcannot send tables nested over 128 deep\n"), done None)
+
 abbrev pub BadObjects : Type 0
 BadObjects = Comes {A =
     List ℕ × End} (λ r. (r.output, r.end)) (record {
@@ -681,4 +720,5 @@ pub record Rows : Type 0 where
   pub supplied : Supplied
   pub data_values : DataValues
   pub names : Names
+  pub deep_tables : DeepTables
   pub bad_objects : BadObjects

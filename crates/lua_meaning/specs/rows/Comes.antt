@@ -1,6 +1,5 @@
 -- What rows of programs claim.
-use Rattle.std.specs.Prelude.{◌≡◌, ℕ, pos, List, [], ◌∷◌, None, codes}
-use Rattle.love_base.specs.Data.{Contents}
+use Rattle.std.specs.Prelude.{◌≡◌, pos, [], ◌∷◌, None, codes}
 use Rattle.lua_meaning.specs.Message.{Message, pair_and, no_pairs, Event, Reply}
 use Rattle.lua_meaning.specs.Run.{Start, Run, run}
 

@@ -1,13 +1,10 @@
 -- Rows: functions of the library (manual §5). Written by checks/meaning-rows/write.py.
-use Rattle.std.specs.Prelude.{ℕ, ℤ, pos, negsuc, true, false, List, [], ◌∷◌, Option, Some, None, codes}
-use Rattle.love_base.specs.Data.{Contents}
-use Rattle.variant.specs.declared.reply.Refusal.TheVariants.{Full, WouldWaitInside, TooManyRunning, GameEnded}
+use Rattle.std.specs.Prelude.{ℕ, pos, List, [], ◌∷◌, None, codes}
 use Rattle.lua_tree.specs.Tree as t
 use Rattle.lua_tree.specs.Tree.{Block}
-use Rattle.lua_meaning.specs.Message.{Message, Source, Event, Ask, Reply, pair_and, no_pairs}
-use Rattle.lua_meaning.specs.Control.{Code, ready, faulty, not_lua}
-use Rattle.lua_meaning.specs.Run.{Run, End, done, failed, no_steps, waits}
-use Rattle.lua_meaning.specs.rows.Comes.{Comes, pair_message, hello_message, quit_event}
+use Rattle.lua_meaning.specs.Control.{ready}
+use Rattle.lua_meaning.specs.Run.{End, done}
+use Rattle.lua_meaning.specs.rows.Comes.{Comes}
 
 -- ---- programs
 
