@@ -1,0 +1,4 @@
+pub mod Comes
+pub mod Follow
+pub mod WholeIs
+pub mod Heights
