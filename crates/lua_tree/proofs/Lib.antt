@@ -2,3 +2,4 @@ pub mod Comes
 pub mod Follow
 pub mod WholeIs
 pub mod Heights
+pub mod Runs
