@@ -3,3 +3,4 @@ pub mod Follow
 pub mod WholeIs
 pub mod Heights
 pub mod Runs
+pub mod Counting

@@ -43,10 +43,11 @@ shape e = a_paren
 
 -- whether a suffix must follow there: a statement begins with no parentheses alone, a target is neither those nor a call
 abbrev pub unfinished : Place → Shape → Bool
-unfinished leading a_paren = true
+unfinished k a_var = false
 unfinished targeted a_call = true
-unfinished targeted a_paren = true
-unfinished k s = false
+unfinished k a_call = false
+unfinished in_expr a_paren = false
+unfinished k a_paren = true
 
 -- the rules; each is given what is counted where it begins
 pub data Rule : Sort → Type 0 where
