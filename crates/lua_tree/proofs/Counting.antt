@@ -148,3 +148,10 @@ node_opening varargs c n line h = omega arith
 node_opening nodes c n line h = omega (arith, h)
 node_opening locals c n line h = omega arith
 node_opening calls c n line h = omega arith
+
+pub end_none : (x : Limit) → at_end x 0 ≡ 0
+end_none breaks = refl
+end_none varargs = refl
+end_none nodes = refl
+end_none locals = refl
+end_none calls = refl

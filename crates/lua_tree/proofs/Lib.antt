@@ -4,3 +4,6 @@ pub mod WholeIs
 pub mod Heights
 pub mod Runs
 pub mod Counting
+pub mod Posts
+pub mod Holds
+pub mod SoundExprs
