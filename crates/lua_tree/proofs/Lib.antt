@@ -7,3 +7,5 @@ pub mod Counting
 pub mod Posts
 pub mod Holds
 pub mod SoundExprs
+pub mod SoundStats
+pub mod Sound

@@ -59,7 +59,7 @@ stops_right o concat h = omega (arith, h)
 stops_right o pow h = omega (arith, h)
 stops_right o o2 h = omega (arith, h)
 
-not_open : (v : Word) → NotSuffix v → NotOpen v
+pub not_open : (v : Word) → NotSuffix v → NotOpen v
 not_open (key w.open_paren) h = h
 not_open v h = tt
 
