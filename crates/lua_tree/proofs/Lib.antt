@@ -9,3 +9,7 @@ pub mod Holds
 pub mod SoundExprs
 pub mod SoundStats
 pub mod Sound
+pub mod Tails
+pub mod Steps
+pub mod Starts
+pub mod Whole
