@@ -13,3 +13,4 @@ pub mod Tails
 pub mod Steps
 pub mod Starts
 pub mod Whole
+pub mod Partly

@@ -261,8 +261,8 @@ var_stat l c e st ts us ms ns g.name_var d = d
 var_stat l c e st ts us ms ns (g.index_var f h) d = d
 var_stat l c e st ts us ms ns (g.dot_var f) d = d
 
-var_target : (c : Counts) (e : Expr) (es : Exprs) (ts us ms ns : List Tok) → Var e ts us → Does some_exprs (Reading.target_of c e Reading.a_var) ms es ns
-    → Does some_exprs (Reading.target_of c e (Reading.shape e)) ms es ns
+var_target : (c : Counts) (e : Expr) (es : Exprs) (ts us ms ns : List Tok) → Var e ts us → Does Reading.some_targets (Reading.target_of c e Reading.a_var) ms es ns
+    → Does Reading.some_targets (Reading.target_of c e (Reading.shape e)) ms es ns
 var_target c e es ts us ms ns g.name_var d = d
 var_target c e es ts us ms ns (g.index_var f h) d = d
 var_target c e es ts us ms ns (g.dot_var f) d = d
@@ -271,7 +271,7 @@ call_alone : (l : ℕ) (c : Counts) (e : Expr) (ts us ms : List Tok) → Call e 
 call_alone l c e ts us ms (g.plain_call d f) = does_give
 call_alone l c e ts us ms (g.method_call d f) = does_give
 
-targets_end : (c : Counts) (s : Spot) (us : List Tok) → Does some_exprs (program (Reading.more_targets c)) (tok (key w.assign) s ∷ us) no_exprs (tok (key w.assign) s ∷ us)
+targets_end : (c : Counts) (s : Spot) (us : List Tok) → Does Reading.some_targets (program (Reading.more_targets c)) (tok (key w.assign) s ∷ us) no_exprs (tok (key w.assign) s ∷ us)
 targets_end c s us = does_look does_give
 
 -- the names of a loop
@@ -396,7 +396,7 @@ mutual
   stats_do b ts us c (g.last_stat {st = st} {m = m} d s) h = last_do st ts m us c d s h
 
   targets_do : (es : Exprs) (m : List Tok) (at at2 : Spot) (us : List Tok) (c : Counts) → VarList es m (tok (key w.assign) at2 ∷ us)
-      → Does some_exprs (program (Reading.more_targets c)) (tok (key w.comma) at ∷ m) es (tok (key w.assign) at2 ∷ us)
+      → Does Reading.some_targets (program (Reading.more_targets c)) (tok (key w.comma) at ∷ m) es (tok (key w.assign) at2 ∷ us)
   targets_do es m at at2 us c (g.one_var {e = e} d) =
       does_look (does_take (does_then (var_leads e m (tok (key w.assign) at2 ∷ us) targeted c d e _ (suffixes_give targeted c e (tok (key w.assign) at2 ∷ us) tt))
       (var_target c e _ m _ _ _ d (does_then (targets_end c at2 us) does_give))))
