@@ -14,3 +14,5 @@ pub mod Steps
 pub mod Starts
 pub mod Whole
 pub mod Partly
+pub mod Alive
+pub mod Closers

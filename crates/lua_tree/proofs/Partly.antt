@@ -65,15 +65,15 @@ stands (x ∷ xs) ys [] t more h = inl (xs, ap (λ u. u ∷ xs) (ap (head_or x) 
 stands (x ∷ xs) ys (u ∷ pre) t more h =
     subst (λ v. Stands (x ∷ xs) ys (v ∷ pre) t more) (ap (head_or x) h) (stands_more x xs ys pre t more (stands xs ys pre t more (ap tail_of h)))
 
-front_word : (pre : List Tok) (t : Tok) (more : List Tok) → word_of (pre ++ t ∷ more) ≡ word_of (pre ++ t ∷ [])
+pub front_word : (pre : List Tok) (t : Tok) (more : List Tok) → word_of (pre ++ t ∷ more) ≡ word_of (pre ++ t ∷ [])
 front_word [] t more = refl
 front_word (u ∷ pre) t more = refl
 
-front_spot : (pre : List Tok) (t : Tok) (more : List Tok) → spot_of (pre ++ t ∷ more) ≡ spot_of (pre ++ t ∷ [])
+pub front_spot : (pre : List Tok) (t : Tok) (more : List Tok) → spot_of (pre ++ t ∷ more) ≡ spot_of (pre ++ t ∷ [])
 front_spot [] t more = refl
 front_spot (u ∷ pre) t more = refl
 
-front_alike : (post : List Tok) (t : Tok) (more : List Tok) → Alike (post ++ t ∷ more) (post ++ t ∷ [])
+pub front_alike : (post : List Tok) (t : Tok) (more : List Tok) → Alike (post ++ t ∷ more) (post ++ t ∷ [])
 front_alike [] t more = refl
 front_alike (u ∷ post) t more = refl
 

@@ -37,7 +37,7 @@ does_last d = does_then d does_give
 
 -- ---- what gives at once
 
-leb_false : (p n : ℕ) → n < p → leb p n ≡ false
+pub leb_false : (p n : ℕ) → n < p → leb p n ≡ false
 leb_false p n h = grind (arith, h)
 
 pub leb_true : (p n : ℕ) → p ≤ n → leb p n ≡ true
