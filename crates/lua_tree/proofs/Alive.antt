@@ -171,8 +171,14 @@ behind_some _ = tt
 
 done_now : (s : Sort) (p : Prog s) (t : Tok) (n : Needs) (b : Bool) (F : List Tok → Type 0) (G : Value s → Type 0) (m : Needs) → b ≡ is_name (word_in t) → Closed s p F G b (both m n) → Done s (take n p) [] t F G m n
 done_now s p t n b F G m e k =
-    record { tokens = k.tokens; value = k.value; log = both n k.log; comes = λ us f. c.takes (k.comes us f); good = k.good;
-      within = λ x h. let y = k.within x (subst (λ d. Counted d x) (sym e) h) in omega (arith, y) }
+    record {
+      tokens = k.tokens;
+      value = k.value;
+      log = both n k.log;
+      comes = λ us f. c.takes (k.comes us f);
+      good = k.good;
+      within = λ x h. let y = k.within x (subst (λ d. Counted d x) (sym e) h) in omega (arith, y);
+    }
 
 done_key : (s : Sort) (k : Key) (n : Needs) (f : Spot → Prog s) (at : Spot) (F : List Tok → Type 0) (G : Value s → Type 0) (m : Needs) → Closed s (f at) F G false (both m n) → Done s (expect k n f) [] (tok (key k) at) F G m n
 done_key s k n f at F G m d =
@@ -185,17 +191,28 @@ done_name s n f b at F G m d =
 done_look : (s : Sort) (f : Word → Spot → Prog s) (pre : List Tok) (t : Tok) (l : Needs) (F : List Tok → Type 0) (G : Value s → Type 0) (m : Needs)
     → Done s (f (word_of (pre ++ t ∷ [])) (spot_of (pre ++ t ∷ []))) pre t F G m l → Done s (look f) pre t F G m l
 done_look s f pre t l F G m d =
-    record { tokens = d.tokens; value = d.value; log = d.log; good = d.good; within = d.within;
+    record {
+      tokens = d.tokens;
+      value = d.value;
+      log = d.log;
+      good = d.good;
+      within = d.within;
       comes = λ us h. c.looks (subst (λ v. Comes s (f v (spot_of (pre ++ t ∷ (d.tokens ++ us)))) (pre ++ t ∷ (d.tokens ++ us)) d.value us d.log) (sym (front_word pre t (d.tokens ++ us)))
-          (subst (λ at. Comes s (f (word_of (pre ++ t ∷ [])) at) (pre ++ t ∷ (d.tokens ++ us)) d.value us d.log) (sym (front_spot pre t (d.tokens ++ us))) (d.comes us h))) }
+          (subst (λ at. Comes s (f (word_of (pre ++ t ∷ [])) at) (pre ++ t ∷ (d.tokens ++ us)) d.value us d.log) (sym (front_spot pre t (d.tokens ++ us))) (d.comes us h)));
+    }
 
 done_inside : (s q : Sort) (r : Rule q) (f : Value q → Prog s) (pre : List Tok) (t : Tok) (l : Needs) (F : List Tok → Type 0) (G : Value s → Type 0) (m : Needs)
     → (d : Done q (program r) pre t (Behind r) (Good r) m l) → Shut s (f d.value) (Behind r) F G (is_name (word_in t)) (both m l) → Done s (then r f) pre t F G m l
 done_inside s q r f pre t l F G m d k =
-    record { tokens = d.tokens ++ k.closed.tokens; value = k.closed.value; log = both d.log k.closed.log; good = k.closed.good;
+    record {
+      tokens = d.tokens ++ k.closed.tokens;
+      value = k.closed.value;
+      log = both d.log k.closed.log;
+      good = k.closed.good;
       within = λ x h. let y = d.within x h in let z = k.closed.within x h in omega (arith, y, z);
       comes = λ us h. subst (λ ts. Comes s (then r f) (pre ++ t ∷ ts) k.closed.value us (both d.log k.closed.log)) (sym (append_assoc d.tokens k.closed.tokens us))
-          (c.thens (d.comes (k.closed.tokens ++ us) (k.stands us h)) (k.closed.comes us h)) }
+          (c.thens (d.comes (k.closed.tokens ++ us) (k.stands us h)) (k.closed.comes us h));
+    }
 
 back : (post : List Tok) (t : Tok) (vs : List Tok) → Alike (post ++ t ∷ []) (post ++ t ∷ vs)
 back [] t vs = refl
@@ -204,13 +221,19 @@ back (u ∷ post) t vs = refl
 done_behind : (s q : Sort) (r : Rule q) (f : Value q → Prog s) (a : Value q) (pre post : List Tok) (t : Tok) (l n : Needs) (F : List Tok → Type 0) (G : Value s → Type 0) (m : Needs)
     → Comes q (program r) (pre ++ (post ++ t ∷ [])) a (post ++ t ∷ []) l → Done s (f a) post t F G (both m l) n → Done s (then r f) (pre ++ post) t F G m (both l n)
 done_behind s q r f a pre post t l n F G m d k =
-    record { tokens = k.tokens; value = k.value; log = both l k.log; good = k.good; within = λ x h. let y = k.within x h in omega (arith, y);
-      comes = λ us h. subst (λ ts. Comes s (then r f) ts k.value us (both l k.log)) (sym (append_assoc pre post (t ∷ (k.tokens ++ us)))) (c.thens (again (k.tokens ++ us)) (k.comes us h)) }
+    record {
+      tokens = k.tokens;
+      value = k.value;
+      log = both l k.log;
+      good = k.good;
+      within = λ x h. let y = k.within x h in omega (arith, y);
+      comes = λ us h. subst (λ ts. Comes s (then r f) ts k.value us (both l k.log)) (sym (append_assoc pre post (t ∷ (k.tokens ++ us)))) (c.thens (again (k.tokens ++ us)) (k.comes us h));
+    }
   where
-  again : (vs : List Tok) → Comes q (program r) (pre ++ (post ++ t ∷ vs)) a (post ++ t ∷ vs) l
-  again vs =
-      let x = took q (program r) (pre ++ (post ++ t ∷ [])) (post ++ t ∷ []) a l d in
-      subst (λ ps. Comes q (program r) (ps ++ (post ++ t ∷ vs)) a (post ++ t ∷ vs) l) (sym (append_cancel_right pre x.pre (post ++ t ∷ []) x.parts)) (x.again (post ++ t ∷ vs) (back post t vs))
+    again : (vs : List Tok) → Comes q (program r) (pre ++ (post ++ t ∷ vs)) a (post ++ t ∷ vs) l
+    again vs =
+        let x = took q (program r) (pre ++ (post ++ t ∷ [])) (post ++ t ∷ []) a l d in
+        subst (λ ps. Comes q (program r) (ps ++ (post ++ t ∷ vs)) a (post ++ t ∷ vs) l) (sym (append_cancel_right pre x.pre (post ++ t ∷ []) x.parts)) (x.again (post ++ t ∷ vs) (back post t vs))
 
 pub done : AllAlive → AllSound → (s : Sort) (p : Prog s) (pre : List Tok) (t : Tok) (l : Needs) → Partly s p pre t l
     → (b : Bool) (F : List Tok → Type 0) (G : Value s → Type 0) (m : Needs) → b ≡ is_name (word_of (pre ++ t ∷ [])) → alive s p b F G m → Done s p pre t F G m l

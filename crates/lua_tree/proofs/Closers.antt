@@ -23,28 +23,51 @@ close_give s a F G b m g = record { tokens = []; value = a; log = free; comes = 
 abbrev pub close_take : (s : Sort) (n : Needs) (p : Prog s) (t : Tok) (f : Word → Spot → Prog s) (F : List Tok → Type 0) (G : Value s → Type 0) (b : Bool) (m : Needs)
     → f (word_in t) (w.spot_in t) ≡ take n p → Within b n m → Closed s p F G b m → Closed s (look f) F G b m
 close_take s n p t f F G b m e h k =
-    record { tokens = t ∷ k.tokens; value = k.value; log = both n k.log; good = k.good; within = λ x i. let y = h x i in let z = k.within x i in omega (arith, y, z);
-      comes = λ us i. cm.looks (subst (λ q. Comes s q (t ∷ (k.tokens ++ us)) k.value us (both n k.log)) (sym e) (cm.takes (k.comes us i))) }
+    record {
+      tokens = t ∷ k.tokens;
+      value = k.value;
+      log = both n k.log;
+      good = k.good;
+      within = λ x i. let y = h x i in let z = k.within x i in omega (arith, y, z);
+      comes = λ us i. cm.looks (subst (λ q. Comes s q (t ∷ (k.tokens ++ us)) k.value us (both n k.log)) (sym e) (cm.takes (k.comes us i)));
+    }
 
 abbrev pub close_key : (s : Sort) (k : Key) (n : Needs) (f : Spot → Prog s) (F : List Tok → Type 0) (G : Value s → Type 0) (b : Bool) (m : Needs)
     → Within b n m → Closed s (f nowhere) F G b m → Closed s (expect k n f) F G b m
 close_key s k n f F G b m h d =
-    record { tokens = tok (key k) nowhere ∷ d.tokens; value = d.value; log = both n d.log; good = d.good; within = λ x i. let y = h x i in let z = d.within x i in omega (arith, y, z);
-      comes = λ us i. cm.expects (d.comes us i) }
+    record {
+      tokens = tok (key k) nowhere ∷ d.tokens;
+      value = d.value;
+      log = both n d.log;
+      good = d.good;
+      within = λ x i. let y = h x i in let z = d.within x i in omega (arith, y, z);
+      comes = λ us i. cm.expects (d.comes us i);
+    }
 
 abbrev pub close_name : (s : Sort) (n : Needs) (f : Bytes → Spot → Prog s) (F : List Tok → Type 0) (G : Value s → Type 0) (b : Bool) (m : Needs)
     → Within b n m → Closed s (f [] nowhere) F G b m → Closed s (expect_name n f) F G b m
 close_name s n f F G b m h d =
-    record { tokens = tok (w.name []) nowhere ∷ d.tokens; value = d.value; log = both n d.log; good = d.good; within = λ x i. let y = h x i in let z = d.within x i in omega (arith, y, z);
-      comes = λ us i. cm.expects_name (d.comes us i) }
+    record {
+      tokens = tok (w.name []) nowhere ∷ d.tokens;
+      value = d.value;
+      log = both n d.log;
+      good = d.good;
+      within = λ x i. let y = h x i in let z = d.within x i in omega (arith, y, z);
+      comes = λ us i. cm.expects_name (d.comes us i);
+    }
 
 abbrev pub close_then : (s q : Sort) (r : Rule q) (f : Value q → Prog s) (F : List Tok → Type 0) (G : Value s → Type 0) (b : Bool) (m : Needs)
     → (d : Closed q (program r) (Behind r) (Good r) b m) → Shut s (f d.value) (Behind r) F G b m → Closed s (then r f) F G b m
 close_then s q r f F G b m d k =
-    record { tokens = d.tokens ++ k.closed.tokens; value = k.closed.value; log = both d.log k.closed.log; good = k.closed.good;
+    record {
+      tokens = d.tokens ++ k.closed.tokens;
+      value = k.closed.value;
+      log = both d.log k.closed.log;
+      good = k.closed.good;
       within = λ x h. let y = d.within x h in let z = k.closed.within x h in omega (arith, y, z);
       comes = λ us h. subst (λ ts. Comes s (then r f) ts k.closed.value us (both d.log k.closed.log)) (sym (append_assoc d.tokens k.closed.tokens us))
-          (cm.thens (d.comes (k.closed.tokens ++ us) (k.stands us h)) (k.closed.comes us h)) }
+          (cm.thens (d.comes (k.closed.tokens ++ us) (k.stands us h)) (k.closed.comes us h));
+    }
 
 -- a program that only gives
 abbrev pub shut_give : (s : Sort) (a : Value s) (E F : List Tok → Type 0) (G : Value s → Type 0) (b : Bool) (m : Needs) → ((us : List Tok) → F us → E us) → G a → Shut s (give a) E F G b m
@@ -342,7 +365,7 @@ closed_arms c b m h =
     (λ us i. cm.thens (cm.thens (cm.looks (cm.takes cm.gives)) (cm.thens (cm.looks cm.gives) cm.gives)) (cm.expects (cm.thens (cm.looks cm.gives) (cm.thens (cm.looks (cm.takes cm.gives)) cm.gives)))) tt
     (λ x i. let y = has_deep c b m h x i in omega (arith, y))
 
-pub closed_num_for_rest : (l : ℕ) (n : Bytes) (a e : Expr) (c : Counts) (b : Bool) (m : Needs) → Closed a_stat (program (r.num_for_rest l n a e c)) Ends Each b m
+abbrev pub closed_num_for_rest : (l : ℕ) (n : Bytes) (a e : Expr) (c : Counts) (b : Bool) (m : Needs) → Closed a_stat (program (r.num_for_rest l n a e c)) Ends Each b m
 closed_num_for_rest l n a e c b m =
     ends a_stat (program (r.num_for_rest l n a e c)) Ends Each b m (at w.do_ ∷ at w.end_ ∷ []) _
     (λ us i. cm.looks (cm.thens (cm.expects (cm.thens (cm.looks cm.gives) (cm.expects cm.gives))) cm.gives)) tt (λ x i. omega arith)
@@ -351,10 +374,10 @@ pub closed_for_rest : (l : ℕ) (n : Bytes) (c : Counts) (b : Bool) (m : Needs) 
 closed_for_rest l n c b m h =
     ends a_stat (program (r.for_rest l n c)) Ends Each b m (at w.in_ ∷ at w.nil_ ∷ at w.do_ ∷ at w.end_ ∷ []) _
     (λ us i. cm.looks (cm.thens (cm.looks cm.gives) (cm.expects (cm.thens (cm.thens (cm.thens (cm.looks (cm.takes cm.gives)) (cm.thens (cm.looks cm.gives) cm.gives)) (cm.thens (cm.looks cm.gives) cm.gives))
-        (cm.thens (cm.expects (cm.thens (cm.looks cm.gives) (cm.expects cm.gives))) cm.gives))))) tt
+    (cm.thens (cm.expects (cm.thens (cm.looks cm.gives) (cm.expects cm.gives))) cm.gives))))) tt
     (λ x i. let y = has_deep c b m h x i in omega (arith, y))
 
-many_false : (n : ℕ) (m : Needs) → Within false (many n) m
+pub many_false : (n : ℕ) (m : Needs) → Within false (many n) m
 many_false n m breaks h = omega arith
 many_false n m varargs h = omega arith
 many_false n m nodes h = omega arith

@@ -16,3 +16,4 @@ pub mod Whole
 pub mod Partly
 pub mod Alive
 pub mod Closers
+pub mod Viable

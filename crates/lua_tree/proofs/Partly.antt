@@ -91,22 +91,22 @@ taken_on : (limit : Limits) (s : Sort) (p q : Prog s) (n : Needs) (u : Tok) (ts 
 taken_on limit s p q n u ts us k first on w =
     record { taken = u ∷ w.taken; parts = ap (λ vs. u ∷ vs) w.parts; each = λ pre t more h. on_each pre t more h }
   where
-  on_each : (pre : List Tok) (t : Tok) (more : List Tok) → u ∷ w.taken ≡ pre ++ t ∷ more → Taken limit s p pre t
-  on_each [] t more h = subst (λ v. Taken limit s p [] v) (ap (head_or u) h) (record { log = n; partly = first; keeps = k })
-  on_each (v ∷ pre) t more h =
-      let x = w.each pre t more (ap tail_of h) in
-      subst (λ v. Taken limit s p (v ∷ pre) t) (ap (head_or u) h) (record { log = both n x.log; partly = on pre t x.log x.partly; keeps = keeps_both limit n x.log k x.keeps })
+    on_each : (pre : List Tok) (t : Tok) (more : List Tok) → u ∷ w.taken ≡ pre ++ t ∷ more → Taken limit s p pre t
+    on_each [] t more h = subst (λ v. Taken limit s p [] v) (ap (head_or u) h) (record { log = n; partly = first; keeps = k })
+    on_each (v ∷ pre) t more h =
+        let x = w.each pre t more (ap tail_of h) in
+        subst (λ v. Taken limit s p (v ∷ pre) t) (ap (head_or u) h) (record { log = both n x.log; partly = on pre t x.log x.partly; keeps = keeps_both limit n x.log k x.keeps })
 
 looked_on : (limit : Limits) (s : Sort) (f : Word → Spot → Prog s) (ts us : List Tok) → Walked limit s (f (word_of ts) (spot_of ts)) ts us → Walked limit s (look f) ts us
 looked_on limit s f ts us w = record { taken = w.taken; parts = w.parts; each = λ pre t more h. on_each pre t more h }
   where
-  on_each : (pre : List Tok) (t : Tok) (more : List Tok) → w.taken ≡ pre ++ t ∷ more → Taken limit s (look f) pre t
-  on_each pre t more h =
-      let x = w.each pre t more h in
-      let whole : ts ≡ pre ++ t ∷ (more ++ us) = w.parts ∙ (ap (λ vs. vs ++ us) h ∙ append_assoc pre (t ∷ more) us) in
-      let same_word = ap word_of whole ∙ front_word pre t (more ++ us) in
-      let same_spot = ap spot_of whole ∙ front_spot pre t (more ++ us) in
-      record { log = x.log; partly = looking (subst (λ v. Partly s (f v (spot_of (pre ++ t ∷ []))) pre t x.log) same_word (subst (λ at. Partly s (f (word_of ts) at) pre t x.log) same_spot x.partly)); keeps = x.keeps }
+    on_each : (pre : List Tok) (t : Tok) (more : List Tok) → w.taken ≡ pre ++ t ∷ more → Taken limit s (look f) pre t
+    on_each pre t more h =
+        let x = w.each pre t more h in
+        let whole : ts ≡ pre ++ t ∷ (more ++ us) = w.parts ∙ (ap (λ vs. vs ++ us) h ∙ append_assoc pre (t ∷ more) us) in
+        let same_word = ap word_of whole ∙ front_word pre t (more ++ us) in
+        let same_spot = ap spot_of whole ∙ front_spot pre t (more ++ us) in
+        record { log = x.log; partly = looking (subst (λ v. Partly s (f v (spot_of (pre ++ t ∷ []))) pre t x.log) same_word (subst (λ at. Partly s (f (word_of ts) at) pre t x.log) same_spot x.partly)); keeps = x.keeps }
 
 then_inside : (limit : Limits) (s q : Sort) (r : Rule q) (f : Value q → Prog s) (ts us : List Tok) → Walked limit q (program r) ts us → Walked limit s (then r f) ts us
 then_inside limit s q r f ts us w =
@@ -117,22 +117,26 @@ then_behind : (limit : Limits) (s q : Sort) (r : Rule q) (f : Value q → Prog s
 then_behind limit s q r f a ts us vs w k x =
     record { taken = c.pre ++ x.taken; parts = c.parts ∙ (ap (λ ws. c.pre ++ ws) x.parts ∙ sym (append_assoc c.pre x.taken vs)); each = λ pre t more h. on_each pre t more h }
   where
-  c : Took q (program r) ts us a k.log
-  c = took q (program r) ts us a k.log k.comes
-  first : (pre : List Tok) (t : Tok) (m : List Tok) → c.pre ≡ pre ++ t ∷ m → w.taken ≡ c.pre → Taken limit s (then r f) pre t
-  first pre t m h e = let y = w.each pre t m (e ∙ h) in record { log = y.log; partly = inside y.partly; keeps = y.keeps }
-  second : (pre : List Tok) (t : Tok) (more post : List Tok) → pre ≡ c.pre ++ post → x.taken ≡ post ++ t ∷ more → Taken limit s (then r f) pre t
-  second pre t more post e h =
-      let y = x.each post t more h in
-      let whole : us ≡ post ++ t ∷ (more ++ vs) = x.parts ∙ (ap (λ ws. ws ++ vs) h ∙ append_assoc post (t ∷ more) vs) in
-      let like : Alike us (post ++ t ∷ []) = subst (λ ws. Alike ws (post ++ t ∷ [])) (sym whole) (front_alike post t (more ++ vs)) in
-      subst (λ p. Taken limit s (then r f) p t) (sym e)
-      (record { log = both k.log y.log; partly = behind c.pre post (c.again (post ++ t ∷ []) like) y.partly; keeps = keeps_both limit k.log y.log k.keeps y.keeps })
-  pick : (pre : List Tok) (t : Tok) (more : List Tok) → w.taken ≡ c.pre → Stands c.pre x.taken pre t more → Taken limit s (then r f) pre t
-  pick pre t more e (inl h) = first pre t h.0 h.1 e
-  pick pre t more e (inr h) = second pre t more h.0 h.1 h.2
-  on_each : (pre : List Tok) (t : Tok) (more : List Tok) → c.pre ++ x.taken ≡ pre ++ t ∷ more → Taken limit s (then r f) pre t
-  on_each pre t more h = pick pre t more (append_cancel_right w.taken c.pre us (sym w.parts ∙ c.parts)) (stands c.pre x.taken pre t more h)
+    c : Took q (program r) ts us a k.log
+    c = took q (program r) ts us a k.log k.comes
+
+    first : (pre : List Tok) (t : Tok) (m : List Tok) → c.pre ≡ pre ++ t ∷ m → w.taken ≡ c.pre → Taken limit s (then r f) pre t
+    first pre t m h e = let y = w.each pre t m (e ∙ h) in record { log = y.log; partly = inside y.partly; keeps = y.keeps }
+
+    second : (pre : List Tok) (t : Tok) (more post : List Tok) → pre ≡ c.pre ++ post → x.taken ≡ post ++ t ∷ more → Taken limit s (then r f) pre t
+    second pre t more post e h =
+        let y = x.each post t more h in
+        let whole : us ≡ post ++ t ∷ (more ++ vs) = x.parts ∙ (ap (λ ws. ws ++ vs) h ∙ append_assoc post (t ∷ more) vs) in
+        let like : Alike us (post ++ t ∷ []) = subst (λ ws. Alike ws (post ++ t ∷ [])) (sym whole) (front_alike post t (more ++ vs)) in
+        subst (λ p. Taken limit s (then r f) p t) (sym e)
+        (record { log = both k.log y.log; partly = behind c.pre post (c.again (post ++ t ∷ []) like) y.partly; keeps = keeps_both limit k.log y.log k.keeps y.keeps })
+
+    pick : (pre : List Tok) (t : Tok) (more : List Tok) → w.taken ≡ c.pre → Stands c.pre x.taken pre t more → Taken limit s (then r f) pre t
+    pick pre t more e (inl h) = first pre t h.0 h.1 e
+    pick pre t more e (inr h) = second pre t more h.0 h.1 h.2
+
+    on_each : (pre : List Tok) (t : Tok) (more : List Tok) → c.pre ++ x.taken ≡ pre ++ t ∷ more → Taken limit s (then r f) pre t
+    on_each pre t more h = pick pre t more (append_cancel_right w.taken c.pre us (sym w.parts ∙ c.parts)) (stands c.pre x.taken pre t more h)
 
 key_taken : (s : Sort) (k : Key) (n : Needs) (f : Spot → Prog s) (at : Spot) (pre : List Tok) (t : Tok) (l : Needs) → Partly s (take n (f at)) pre t l
     → tok (key k) at ≡ head_or t pre → Partly s (expect k n f) pre t l
@@ -153,11 +157,11 @@ taken_as : (limit : Limits) (s : Sort) (p q : Prog s) (u : Tok) (ts us : List To
     → Walked limit s p (u ∷ ts) us → Walked limit s q (u ∷ ts) us
 taken_as limit s p q u ts us on w = record { taken = w.taken; parts = w.parts; each = λ pre t more h. on_each pre t more h }
   where
-  on_each : (pre : List Tok) (t : Tok) (more : List Tok) → w.taken ≡ pre ++ t ∷ more → Taken limit s q pre t
-  on_each pre t more h =
-      let x = w.each pre t more h in
-      let whole : u ∷ ts ≡ pre ++ t ∷ (more ++ us) = w.parts ∙ (ap (λ vs. vs ++ us) h ∙ append_assoc pre (t ∷ more) us) in
-      record { log = x.log; partly = on pre t x.log x.partly (ap (head_or u) whole ∙ front_head u pre t (more ++ us)); keeps = x.keeps }
+    on_each : (pre : List Tok) (t : Tok) (more : List Tok) → w.taken ≡ pre ++ t ∷ more → Taken limit s q pre t
+    on_each pre t more h =
+        let x = w.each pre t more h in
+        let whole : u ∷ ts ≡ pre ++ t ∷ (more ++ us) = w.parts ∙ (ap (λ vs. vs ++ us) h ∙ append_assoc pre (t ∷ more) us) in
+        record { log = x.log; partly = on pre t x.log x.partly (ap (head_or u) whole ∙ front_head u pre t (more ++ us)); keeps = x.keeps }
 
 pub walked : (limit : Limits) (s : Sort) (p : Prog s) (ts : List Tok) (r : Answer (Value s)) → Reads limit s p ts r → Walked limit s p ts (rest_of s r)
 walked limit s p ts a r.gives = nothing limit s p ts
@@ -196,7 +200,12 @@ passed_on : (limit : Limits) (s : Sort) (p q : Prog s) (n : Needs) (u : Tok) (ts
     → ((pre : List Tok) (t : Tok) (l : Needs) → Partly s q pre t l → Partly s p (u ∷ pre) t (both n l)) → Passed limit s q ts x us → Passed limit s p (u ∷ ts) x us
 passed_on limit s p q n u ts x us k on w =
     record {
-      taken = u ∷ w.taken; token = w.token; rest = w.rest; log = both n w.log; parts = ap (λ vs. u ∷ vs) w.parts; stops_at = w.stops_at;
+      taken = u ∷ w.taken;
+      token = w.token;
+      rest = w.rest;
+      log = both n w.log;
+      parts = ap (λ vs. u ∷ vs) w.parts;
+      stops_at = w.stops_at;
       partly = on w.taken w.token w.log w.partly;
       passes = let h = w.passes in omega (arith, h);
       lower = λ y h. let a = k y in let b = w.lower y h in omega (arith, a, b);
@@ -208,10 +217,16 @@ passed_look limit s f ts x us w =
     let same_word = ap word_of whole ∙ front_word w.taken w.token w.rest in
     let same_spot = ap spot_of whole ∙ front_spot w.taken w.token w.rest in
     record {
-      taken = w.taken; token = w.token; rest = w.rest; log = w.log; parts = w.parts; stops_at = w.stops_at;
+      taken = w.taken;
+      token = w.token;
+      rest = w.rest;
+      log = w.log;
+      parts = w.parts;
+      stops_at = w.stops_at;
       partly = looking (subst (λ v. Partly s (f v (spot_of (w.taken ++ w.token ∷ []))) w.taken w.token w.log) same_word
           (subst (λ at. Partly s (f (word_of ts) at) w.taken w.token w.log) same_spot w.partly));
-      passes = w.passes; lower = w.lower;
+      passes = w.passes;
+      lower = w.lower;
     }
 
 passed_as : (limit : Limits) (s : Sort) (p q : Prog s) (u : Tok) (ts : List Tok) (x : Limit) (us : List Tok) → ((pre : List Tok) (t : Tok) (l : Needs) → Partly s p pre t l → u ≡ head_or t pre → Partly s q pre t l)
@@ -219,8 +234,15 @@ passed_as : (limit : Limits) (s : Sort) (p q : Prog s) (u : Tok) (ts : List Tok)
 passed_as limit s p q u ts x us on w =
     let whole : u ∷ ts ≡ w.taken ++ w.token ∷ w.rest = w.parts ∙ ap (λ vs. w.taken ++ vs) w.stops_at in
     record {
-      taken = w.taken; token = w.token; rest = w.rest; log = w.log; parts = w.parts; stops_at = w.stops_at;
-      partly = on w.taken w.token w.log w.partly (ap (head_or u) whole ∙ front_head u w.taken w.token w.rest); passes = w.passes; lower = w.lower;
+      taken = w.taken;
+      token = w.token;
+      rest = w.rest;
+      log = w.log;
+      parts = w.parts;
+      stops_at = w.stops_at;
+      partly = on w.taken w.token w.log w.partly (ap (head_or u) whole ∙ front_head u w.taken w.token w.rest);
+      passes = w.passes;
+      lower = w.lower;
     }
 
 passed_inside : (limit : Limits) (s q : Sort) (r : Rule q) (f : Value q → Prog s) (ts : List Tok) (x : Limit) (us : List Tok) → Passed limit q (program r) ts x us → Passed limit s (then r f) ts x us
@@ -234,8 +256,12 @@ passed_behind limit s q r f a ts us x vs k w =
     let whole : us ≡ w.taken ++ w.token ∷ w.rest = w.parts ∙ ap (λ ws. w.taken ++ ws) w.stops_at in
     let like : Alike us (w.taken ++ w.token ∷ []) = subst (λ ws. Alike ws (w.taken ++ w.token ∷ [])) (sym whole) (front_alike w.taken w.token w.rest) in
     record {
-      taken = c.pre ++ w.taken; token = w.token; rest = w.rest; log = both k.log w.log;
-      parts = c.parts ∙ (ap (λ ws. c.pre ++ ws) w.parts ∙ sym (append_assoc c.pre w.taken vs)); stops_at = w.stops_at;
+      taken = c.pre ++ w.taken;
+      token = w.token;
+      rest = w.rest;
+      log = both k.log w.log;
+      parts = c.parts ∙ (ap (λ ws. c.pre ++ ws) w.parts ∙ sym (append_assoc c.pre w.taken vs));
+      stops_at = w.stops_at;
       partly = behind c.pre w.taken (c.again (w.taken ++ w.token ∷ []) like) w.partly;
       passes = let h = w.passes in omega (arith, h);
       lower = λ y h. let m = k.keeps y in let b = w.lower y h in omega (arith, m, b);

@@ -178,10 +178,13 @@ right_in n l m e y = subst (λ m. l y ≤ m y) e (omega arith)
 
 told_take : (limit : Limits) (s : Sort) (n : Needs) (p : Prog s) (t : Tok) (ts : List Tok) (r : Answer (Value s)) → Keeps limit n → Told limit s p ts r → Told limit s (take n p) (t ∷ ts) r
 told_take limit s n p t ts (got a us) k x = record { log = both n x.log; comes = c.takes x.comes; keeps = keeps_both limit n x.log k x.keeps }
-told_take limit s n p t ts (stuck x us) k h =
-    (t ∷ h.0, ap (λ vs. t ∷ vs) h.1, λ vs i o e.
-        let y = did s (take n p) (t ∷ (h.0 ++ vs)) o.rest o.value o.log e in
-        blames_more limit x y.0 o.log (right_in n y.0 o.log y.2) (h.2 vs i (out s o.value o.rest y.0) y.1))
+told_take limit s n p t ts (stuck x us) k h = (
+  t ∷ h.0,
+  ap (λ vs. t ∷ vs) h.1,
+  λ vs i o e.
+      let y = did s (take n p) (t ∷ (h.0 ++ vs)) o.rest o.value o.log e in
+      blames_more limit x y.0 o.log (right_in n y.0 o.log y.2) (h.2 vs i (out s o.value o.rest y.0) y.1),
+)
 
 told_passes : (limit : Limits) (s : Sort) (n : Needs) (p : Prog s) (x : Limit) (t : Tok) (ts vs : List Tok) (o : Out s) → limit x < n x → Alike (t ∷ ts) vs → Outs s (take n p) vs o → limit x < o.log x
 told_passes limit s n p x t ts [] o h i e = absurd i
@@ -193,11 +196,14 @@ told_none limit s n p (u ∷ vs) o i e = i
 
 told_look : (limit : Limits) (s : Sort) (f : Word → Spot → Prog s) (ts : List Tok) (r : Answer (Value s)) → Told limit s (f (word_of ts) (spot_of ts)) ts r → Told limit s (look f) ts r
 told_look limit s f ts (got a us) x = record { log = x.log; comes = c.looks x.comes; keeps = x.keeps }
-told_look limit s f ts (stuck x us) h =
-    (h.0, h.1, λ vs i o e.
-        let like : Alike ts (h.0 ++ vs) = subst (λ ts. Alike ts (h.0 ++ vs)) (sym h.1) (alike_front h.0 us vs i) in
-        let y = did s (look f) (h.0 ++ vs) o.rest o.value o.log e in
-        h.2 vs i o (subst (λ v. Comes s (f v (spot_of ts)) (h.0 ++ vs) o.value o.rest o.log) (sym (alike_word ts (h.0 ++ vs) like)) (subst (λ at. Comes s (f (word_of (h.0 ++ vs)) at) (h.0 ++ vs) o.value o.rest o.log) (sym (alike_spot ts (h.0 ++ vs) like)) y)))
+told_look limit s f ts (stuck x us) h = (
+  h.0,
+  h.1,
+  λ vs i o e.
+      let like : Alike ts (h.0 ++ vs) = subst (λ ts. Alike ts (h.0 ++ vs)) (sym h.1) (alike_front h.0 us vs i) in
+      let y = did s (look f) (h.0 ++ vs) o.rest o.value o.log e in
+      h.2 vs i o (subst (λ v. Comes s (f v (spot_of ts)) (h.0 ++ vs) o.value o.rest o.log) (sym (alike_word ts (h.0 ++ vs) like)) (subst (λ at. Comes s (f (word_of (h.0 ++ vs)) at) (h.0 ++ vs) o.value o.rest o.log) (sym (alike_spot ts (h.0 ++ vs) like)) y)),
+)
 
 -- a token that had to stand there, taken
 taken_key : (s : Sort) (k : Key) (n : Needs) (f : Spot → Prog s) (at : Spot) (ts : List Tok) (o : Out s) → at ≡ spot_of ts → Outs s (expect k n f) ts o → Outs s (take n (f at)) ts o
@@ -210,10 +216,13 @@ told_key : (limit : Limits) (s : Sort) (k : Key) (n : Needs) (f : Spot → Prog 
 told_key limit s k n f at ts (got a us) x =
     let y = did s (take n (f at)) (tok (key k) at ∷ ts) us a x.log x.comes in
     record { log = x.log; comes = subst (λ l. Comes s (expect k n f) (tok (key k) at ∷ ts) a us l) y.2 (c.expects y.1); keeps = x.keeps }
-told_key limit s k n f at ts (stuck x us) h =
-    (h.0, h.1, λ vs i o e.
-        let like : Alike (tok (key k) at ∷ ts) (h.0 ++ vs) = subst (λ ts. Alike ts (h.0 ++ vs)) (sym h.1) (alike_front h.0 us vs i) in
-        h.2 vs i o (taken_key s k n f at (h.0 ++ vs) o (alike_spot (tok (key k) at ∷ ts) (h.0 ++ vs) like) e))
+told_key limit s k n f at ts (stuck x us) h = (
+  h.0,
+  h.1,
+  λ vs i o e.
+      let like : Alike (tok (key k) at ∷ ts) (h.0 ++ vs) = subst (λ ts. Alike ts (h.0 ++ vs)) (sym h.1) (alike_front h.0 us vs i) in
+      h.2 vs i o (taken_key s k n f at (h.0 ++ vs) o (alike_spot (tok (key k) at ∷ ts) (h.0 ++ vs) like) e),
+)
 
 told_not_that : (limit : Limits) (s : Sort) (k : Key) (n : Needs) (f : Spot → Prog s) (ts vs : List Tok) (o : Out s) → (word_of ts ≡ key k → ⊥) → Alike ts vs → Outs s (expect k n f) vs o → ⊥
 told_not_that limit s k n f ts vs o h i e = let y = did s (expect k n f) vs o.rest o.value o.log e in h (alike_word ts vs i ∙ ap word_of y.3)
@@ -230,10 +239,13 @@ told_name : (limit : Limits) (s : Sort) (n : Needs) (f : Bytes → Spot → Prog
 told_name limit s n f z at ts (got a us) x =
     let y = did s (take n (f z at)) (tok (w.name z) at ∷ ts) us a x.log x.comes in
     record { log = x.log; comes = subst (λ l. Comes s (expect_name n f) (tok (w.name z) at ∷ ts) a us l) y.2 (c.expects_name y.1); keeps = x.keeps }
-told_name limit s n f z at ts (stuck x us) h =
-    (h.0, h.1, λ vs i o e.
-        let like : Alike (tok (w.name z) at ∷ ts) (h.0 ++ vs) = subst (λ ts. Alike ts (h.0 ++ vs)) (sym h.1) (alike_front h.0 us vs i) in
-        h.2 vs i o (taken_name s n f z at (h.0 ++ vs) o (alike_word (tok (w.name z) at ∷ ts) (h.0 ++ vs) like) (alike_spot (tok (w.name z) at ∷ ts) (h.0 ++ vs) like) e))
+told_name limit s n f z at ts (stuck x us) h = (
+  h.0,
+  h.1,
+  λ vs i o e.
+      let like : Alike (tok (w.name z) at ∷ ts) (h.0 ++ vs) = subst (λ ts. Alike ts (h.0 ++ vs)) (sym h.1) (alike_front h.0 us vs i) in
+      h.2 vs i o (taken_name s n f z at (h.0 ++ vs) o (alike_word (tok (w.name z) at ∷ ts) (h.0 ++ vs) like) (alike_spot (tok (w.name z) at ∷ ts) (h.0 ++ vs) like) e),
+)
 
 told_no_name : (limit : Limits) (s : Sort) (n : Needs) (f : Bytes → Spot → Prog s) (ts vs : List Tok) (o : Out s) → ((x : Bytes) → word_of ts ≡ w.name x → ⊥) → Alike ts vs → Outs s (expect_name n f) vs o → ⊥
 told_no_name limit s n f ts vs o h i e = let y = did s (expect_name n f) vs o.rest o.value o.log e in h y.0 (alike_word ts vs i ∙ ap word_of y.4)
@@ -244,20 +256,26 @@ told_not_last s a t ts vs o i e = let y = did s (at_last a) vs o.rest o.value o.
 told_then : (limit : Limits) (s q : Sort) (r : Rule q) (f : Value q → Prog s) (a : Value q) (ts us : List Tok) (b : Answer (Value s)) → Kept limit q (program r) ts us a → Told limit s (f a) us b → Told limit s (then r f) ts b
 told_then limit s q r f a ts us (got b vs) x y = record { log = both x.log y.log; comes = c.thens x.comes y.comes; keeps = keeps_both limit x.log y.log x.keeps y.keeps }
 told_then limit s q r f a ts us (stuck z vs) x h =
-    let t = took q (program r) ts us a x.log x.comes in
-    (t.pre ++ h.0, t.parts ∙ (ap (λ vs. t.pre ++ vs) h.1 ∙ sym (append_assoc t.pre h.0 vs)), λ ws i o e.
-        let like : Alike us (h.0 ++ ws) = subst (λ us. Alike us (h.0 ++ ws)) (sym h.1) (alike_front h.0 vs ws i) in
-        let y = did s (then r f) ((t.pre ++ h.0) ++ ws) o.rest o.value o.log e in
-        let d = subst (λ ts. Comes q (program r) ts y.0 y.1 y.2) (append_assoc t.pre h.0 ws) y.4 in
-        let same = one q (program r) (t.pre ++ (h.0 ++ ws)) (h.0 ++ ws) a x.log (out q y.0 y.1 y.2) (t.again (h.0 ++ ws) like) d in
-        let e2 = subst (λ i. Comes s (f i.value) i.rest o.value o.rest y.3) (sym same) y.5 in
-        blames_more limit z y.3 o.log (right_in y.2 y.3 o.log y.6) (h.2 ws i (out s o.value o.rest y.3) e2))
+    let t = took q (program r) ts us a x.log x.comes in (
+      t.pre ++ h.0,
+      t.parts ∙ (ap (λ vs. t.pre ++ vs) h.1 ∙ sym (append_assoc t.pre h.0 vs)),
+      λ ws i o e.
+          let like : Alike us (h.0 ++ ws) = subst (λ us. Alike us (h.0 ++ ws)) (sym h.1) (alike_front h.0 vs ws i) in
+          let y = did s (then r f) ((t.pre ++ h.0) ++ ws) o.rest o.value o.log e in
+          let d = subst (λ ts. Comes q (program r) ts y.0 y.1 y.2) (append_assoc t.pre h.0 ws) y.4 in
+          let same = one q (program r) (t.pre ++ (h.0 ++ ws)) (h.0 ++ ws) a x.log (out q y.0 y.1 y.2) (t.again (h.0 ++ ws) like) d in
+          let e2 = subst (λ i. Comes s (f i.value) i.rest o.value o.rest y.3) (sym same) y.5 in
+          blames_more limit z y.3 o.log (right_in y.2 y.3 o.log y.6) (h.2 ws i (out s o.value o.rest y.3) e2),
+    )
 
 told_stop : (limit : Limits) (s q : Sort) (r : Rule q) (f : Value q → Prog s) (x : Fault) (ts us : List Tok) → Told limit q (program r) ts (stuck x us) → Told limit s (then r f) ts (stuck x us)
-told_stop limit s q r f x ts us h =
-    (h.0, h.1, λ vs i o e.
-        let y = did s (then r f) (h.0 ++ vs) o.rest o.value o.log e in
-        blames_more limit x y.2 o.log (left_in y.2 y.3 o.log y.6) (h.2 vs i (out q y.0 y.1 y.2) y.4))
+told_stop limit s q r f x ts us h = (
+  h.0,
+  h.1,
+  λ vs i o e.
+      let y = did s (then r f) (h.0 ++ vs) o.rest o.value o.log e in
+      blames_more limit x y.2 o.log (left_in y.2 y.3 o.log y.6) (h.2 vs i (out q y.0 y.1 y.2) y.4),
+)
 
 pub told : (limit : Limits) (s : Sort) (p : Prog s) (ts : List Tok) (r : Answer (Value s)) → Reads limit s p ts r → Told limit s p ts r
 told limit s p ts r gives = record { log = free; comes = c.gives; keeps = λ x. omega arith }

@@ -86,10 +86,11 @@ picked p n A B ts P f g = pick p n A B ts P f g (leb p n) refl
 binary_more : (p : ℕ) (c : Counts) (a : Expr) (o : BinOp) (at : Spot) (ts : List Tok) → p ≤ level o
     → wp an_expr (take (deep (suc (c nodes) + height a)) (then (r.expr (right_level o) (down c)) (λ b. then (r.more p c (binary at.line o a b)) give))) (tok (w.op o) at ∷ ts) (Post an_expr (r.more p c a) (tok (w.op o) at ∷ ts))
 binary_more p c a o at ts le = λ b us l h e vs m k.
-    let g = h (right_low o) in
-    (λ ts0 ea ra. k.0 ts0 (binary_exp le (ra o refl) g.0) (λ o2 i. binary_exp (stops_right o o2 (subst (NotFrom (right_level o)) i g.1)) (ra o refl) g.0),
-     k.1,
-     λ x. let y = pushed x c a in let z = g.2 x in let v = k.2 x in let u = node_below x (c x) a in omega (arith, y, z, v, u))
+    let g = h (right_low o) in (
+      λ ts0 ea ra. k.0 ts0 (binary_exp le (ra o refl) g.0) (λ o2 i. binary_exp (stops_right o o2 (subst (NotFrom (right_level o)) i g.1)) (ra o refl) g.0),
+      k.1,
+      λ x. let y = pushed x c a in let z = g.2 x in let v = k.2 x in let u = node_below x (c x) a in omega (arith, y, z, v, u),
+    )
 
 pub s_more : (p : ℕ) (c : Counts) (a : Expr) (ts : List Tok) → wp an_expr (program (r.more p c a)) ts (Post an_expr (r.more p c a) ts)
 s_more p c a (tok (w.op o) at ∷ ts) =
@@ -104,9 +105,11 @@ from_prefix c ts = λ e us l h. (λ q i. prefix_exp h.0 (not_open (word_of us) h
 from_unary : (c : Counts) (o : UnOp) (v : Word) (at : Spot) (ts : List Tok) → IsUnary o v
     → wp an_expr (take (deep (c nodes + 2)) (then (r.expr unary_level (down c)) (λ e. give (unary at.line o e)))) (tok v at ∷ ts) (Post an_expr (r.first c) (tok v at ∷ ts))
 from_unary c o v at ts u = λ e us l h.
-    let g = h (omega arith) in
-    (λ q i. unary_exp i u g.0, λ o2 i. unary_exp (stops_unary o2 (subst (NotFrom unary_level) i g.1)) u g.0,
-     λ x. let y = two_deep x c in let z = g.2 x in let a = node_under x (c x) in let b = node_in x (under x (c x)) e in omega (arith, y, z, a, b))
+    let g = h (omega arith) in (
+      λ q i. unary_exp i u g.0,
+      λ o2 i. unary_exp (stops_unary o2 (subst (NotFrom unary_level) i g.1)) u g.0,
+      λ x. let y = two_deep x c in let z = g.2 x in let a = node_under x (c x) in let b = node_in x (under x (c x)) e in omega (arith, y, z, a, b),
+    )
 
 pub s_first : (c : Counts) (ts : List Tok) → wp an_expr (program (r.first c)) ts (Post an_expr (r.first c) ts)
 s_first c [] = from_prefix c []
@@ -131,9 +134,11 @@ s_prefix k c [] = tt
 s_prefix k c (tok (w.name b) at ∷ ts) = λ e us l h. (h.0 (tok (w.name b) at ∷ ts) (var_prefix name_var), h.1, λ x. let y = one_deep x c in let z = h.2 x in omega (arith, y, z))
 s_prefix k c (tok (key w.open_paren) at ∷ ts) = λ e us l h at2 vs q a ws m g.
     let i = h (omega arith) in
-    let u = held (unfinished k a_paren) c in
-    (g.0 (tok (key w.open_paren) at ∷ ts) (paren_prefix (subst (Exp 0 e ts) q i.0)), g.1,
-     λ x. let y = two_deep x u in let z = i.2 x in let v = g.2 x in let n = node_under x (u x) in let o = node_in x (under x (u x)) e in omega (arith, y, z, v, n, o))
+    let u = held (unfinished k a_paren) c in (
+      g.0 (tok (key w.open_paren) at ∷ ts) (paren_prefix (subst (Exp 0 e ts) q i.0)),
+      g.1,
+      λ x. let y = two_deep x u in let z = i.2 x in let v = g.2 x in let n = node_under x (u x) in let o = node_in x (under x (u x)) e in omega (arith, y, z, v, n, o),
+    )
 s_prefix k c (tok v at ∷ ts) = tt
 
 -- sums up a call: what its callee, its opening token and its arguments make unavoidable
@@ -150,27 +155,35 @@ s_called : (k : Place) (c : Counts) (a : Expr) (ts : List Tok) → wp an_expr (c
 s_called k c a ts = λ v us l h e vs m g.
     let u = held (unfinished k a_call) c in
     let o = one_high a in
-    let i = h.1 (omega (arith, o)) in
-    (λ ts0 pa. g.0 ts0 (call_prefix (plain_call pa h.0)), g.1,
-     λ x. let s = call_sum (most x (held (unfinished k (shape a)) c x) a) 0 (opening (suc (u nodes) + height a) v.0 x) (most_exprs x (under x (u x)) v.1) (m x) (node x (u x)) (at_call x v.0) (most x (under x (u x)) a) (l x) (most x (held (unfinished k (shape e)) c x) e)
-        (omega arith) (opened x (unfinished k (shape a)) (unfinished k a_call) c a v.0) (i x) (node_below x (u x) a) (g.2 x) in omega (arith, s))
+    let i = h.1 (omega (arith, o)) in (
+      λ ts0 pa. g.0 ts0 (call_prefix (plain_call pa h.0)),
+      g.1,
+      λ x. let s = call_sum (most x (held (unfinished k (shape a)) c x) a) 0 (opening (suc (u nodes) + height a) v.0 x) (most_exprs x (under x (u x)) v.1) (m x) (node x (u x)) (at_call x v.0) (most x (under x (u x)) a) (l x) (most x (held (unfinished k (shape e)) c x) e)
+          (omega arith) (opened x (unfinished k (shape a)) (unfinished k a_call) c a v.0) (i x) (node_below x (u x) a) (g.2 x) in omega (arith, s),
+    )
 
 pub s_suffixes : (k : Place) (c : Counts) (a : Expr) (ts : List Tok) → wp an_expr (program (r.suffixes k c a)) ts (Post an_expr (r.suffixes k c a) ts)
 s_suffixes k c a [] = (λ ts0 e. e, tt, λ x. omega arith)
 s_suffixes k c a (tok (key w.open_bracket) at ∷ ts) = λ e us l h at2 vs q f ws m g.
-    let i = h (omega arith) in
-    (λ ts0 pa. g.0 ts0 (var_prefix (index_var pa (subst (Exp 0 e ts) q i.0))), g.1,
-     λ x. let y = pushed_held x (unfinished k (shape a)) c a in let z = i.2 x in let v = g.2 x in let n = node_below x (c x) a in omega (arith, y, z, v, n))
-s_suffixes k c a (tok (key w.dot) at ∷ ts) = λ b at2 us q e vs m g.
-    (λ ts0 pa. g.0 ts0 (var_prefix (dot_var (subst (λ ts. Prefix a ts0 (tok (key w.dot) at ∷ ts)) q pa))), g.1,
-     λ x. let y = pushed_held x (unfinished k (shape a)) c a in let v = g.2 x in let n = node_below x (c x) a in let o = node_in x (under x (c x)) a in omega (arith, y, v, n, o))
+    let i = h (omega arith) in (
+      λ ts0 pa. g.0 ts0 (var_prefix (index_var pa (subst (Exp 0 e ts) q i.0))),
+      g.1,
+      λ x. let y = pushed_held x (unfinished k (shape a)) c a in let z = i.2 x in let v = g.2 x in let n = node_below x (c x) a in omega (arith, y, z, v, n),
+    )
+s_suffixes k c a (tok (key w.dot) at ∷ ts) = λ b at2 us q e vs m g. (
+  λ ts0 pa. g.0 ts0 (var_prefix (dot_var (subst (λ ts. Prefix a ts0 (tok (key w.dot) at ∷ ts)) q pa))),
+  g.1,
+  λ x. let y = pushed_held x (unfinished k (shape a)) c a in let v = g.2 x in let n = node_below x (c x) a in let o = node_in x (under x (c x)) a in omega (arith, y, v, n, o),
+)
 s_suffixes k c a (tok (key w.colon) at ∷ ts) = λ b at2 us q v vs l h e ws m g.
     let u = held (unfinished k a_call) c in
     let o = one_high a in
-    let i = h.1 (omega (arith, o)) in
-    (λ ts0 pa. g.0 ts0 (call_prefix (method_call (subst (λ ts. Prefix a ts0 (tok (key w.colon) at ∷ ts)) q pa) h.0)), g.1,
-     λ x. let s = call_sum (most x (held (unfinished k (shape a)) c x) a) (deep (suc (u nodes) + height a) x) (opening (suc (u nodes) + height a) v.0 x) (most_exprs x (under x (u x)) v.1) (m x) (node x (u x)) (at_call x v.0) (most x (under x (u x)) a) (l x) (most x (held (unfinished k (shape e)) c x) e)
-        (deep_opening x (suc (u nodes) + height a) v.0) (opened x (unfinished k (shape a)) (unfinished k a_call) c a v.0) (i x) (node_below x (u x) a) (g.2 x) in omega (arith, s))
+    let i = h.1 (omega (arith, o)) in (
+      λ ts0 pa. g.0 ts0 (call_prefix (method_call (subst (λ ts. Prefix a ts0 (tok (key w.colon) at ∷ ts)) q pa) h.0)),
+      g.1,
+      λ x. let s = call_sum (most x (held (unfinished k (shape a)) c x) a) (deep (suc (u nodes) + height a) x) (opening (suc (u nodes) + height a) v.0 x) (most_exprs x (under x (u x)) v.1) (m x) (node x (u x)) (at_call x v.0) (most x (under x (u x)) a) (l x) (most x (held (unfinished k (shape e)) c x) e)
+          (deep_opening x (suc (u nodes) + height a) v.0) (opened x (unfinished k (shape a)) (unfinished k a_call) c a v.0) (i x) (node_below x (u x) a) (g.2 x) in omega (arith, s),
+    )
 s_suffixes k c a (tok (key w.open_paren) at ∷ ts) = s_called k c a (tok (key w.open_paren) at ∷ ts)
 s_suffixes k c a (tok (key w.open_brace) at ∷ ts) = s_called k c a (tok (key w.open_brace) at ∷ ts)
 s_suffixes k c a (tok (w.str b) at ∷ ts) = s_called k c a (tok (w.str b) at ∷ ts)
@@ -178,9 +191,10 @@ s_suffixes k c a (tok v at ∷ ts) = (λ ts0 e. e, tt, λ x. omega arith)
 
 pub s_args : (n : ℕ) (c : Counts) (ts : List Tok) → wp an_args (program (r.args n c)) ts (Post an_args (r.args n c) ts)
 s_args n c [] = tt
-s_args n c (tok (key w.open_paren) at ∷ ts) = λ v us l h.
-    (subst (λ line. Args line v.1 (tok (key w.open_paren) at ∷ ts) us) (sym h.0) (h.1 at refl),
-     λ le x. let y = h.2 x in let z = ap (λ line. r.opening n line x) h.0 in omega (arith, y, z))
+s_args n c (tok (key w.open_paren) at ∷ ts) = λ v us l h. (
+  subst (λ line. Args line v.1 (tok (key w.open_paren) at ∷ ts) us) (sym h.0) (h.1 at refl),
+  λ le x. let y = h.2 x in let z = ap (λ line. r.opening n line x) h.0 in omega (arith, y, z),
+)
 s_args n c (tok (key w.open_brace) at ∷ ts) = λ fs us l h. (table_args h.1, λ le x. let y = h.2 x in let z = node_opening x c n at.line le in omega (arith, y, z))
 s_args n c (tok (w.str b) at ∷ ts) = (str_args, λ le x. let z = node_opening x c n at.line le in omega (arith, z))
 s_args n c (tok v at ∷ ts) = tt
@@ -213,9 +227,11 @@ s_fields c [] = from_item c []
 s_fields c (tok (key w.close_brace) at ∷ ts) = (at, no_field, λ x. omega arith)
 s_fields c (tok (key w.open_bracket) at ∷ ts) = λ k us l h at2 vs q at3 ws q2 e us2 m g fs us3 n i.
     let a = h (omega arith) in
-    let b = g (omega arith) in
-    (i.0, keyed_field (subst (λ vs. Exp 0 k ts (tok (key w.close_bracket) at2 ∷ vs)) q2 (subst (Exp 0 k ts) q a.0)) b.0 i.1,
-     λ x. let y = a.2 x in let z = b.2 x in let v = i.2 x in let u = one_deep x c in let o = node_in x (c x) k in omega (arith, y, z, v, u, o))
+    let b = g (omega arith) in (
+      i.0,
+      keyed_field (subst (λ vs. Exp 0 k ts (tok (key w.close_bracket) at2 ∷ vs)) q2 (subst (Exp 0 k ts) q a.0)) b.0 i.1,
+      λ x. let y = a.2 x in let z = b.2 x in let v = i.2 x in let u = one_deep x c in let o = node_in x (c x) k in omega (arith, y, z, v, u, o),
+    )
 s_fields c (tok (w.name b) at ∷ ts) = λ fs us l h. (h.0, h.1 at refl, λ x. let y = h.2 x in let u = one_deep x c in omega (arith, y, u))
 s_fields c (tok v at ∷ ts) = from_item c (tok v at ∷ ts)
 
@@ -229,17 +245,20 @@ s_more_fields c (tok v at ∷ ts) = tt
 -- a field that begins with a name and is an expression
 from_name : (line : ℕ) (b : Bytes) (c : Counts) (ts : List Tok)
     → wp some_fields (then (r.suffixes in_expr c (name line b)) (λ a. then (r.more 0 c a) (λ e. then (r.more_fields c) (λ fs. give (item_and e fs))))) ts (Post some_fields (r.name_field line b c) ts)
-from_name line b c ts = λ a us l h e vs m k fs ws n i.
-    (i.0,
-     λ at q.
-        let p = h.0 (tok (w.name b) at ∷ ts) (subst (λ line. Prefix (name line b) (tok (w.name b) at ∷ ts) ts) (sym q) (var_prefix name_var)) in
-        item_field (k.0 (tok (w.name b) at ∷ ts) (prefix_exp p (not_open (word_of us) h.1)) (λ o i. prefix_exp p (not_open (word_of us) h.1))) i.1,
-     λ x. let y = h.2 x in let z = in_expr_held x (shape a) c a in let u = k.2 x in let v = i.2 x in omega (arith, y, z, u, v))
+from_name line b c ts = λ a us l h e vs m k fs ws n i. (
+  i.0,
+  λ at q.
+      let p = h.0 (tok (w.name b) at ∷ ts) (subst (λ line. Prefix (name line b) (tok (w.name b) at ∷ ts) ts) (sym q) (var_prefix name_var)) in
+      item_field (k.0 (tok (w.name b) at ∷ ts) (prefix_exp p (not_open (word_of us) h.1)) (λ o i. prefix_exp p (not_open (word_of us) h.1))) i.1,
+  λ x. let y = h.2 x in let z = in_expr_held x (shape a) c a in let u = k.2 x in let v = i.2 x in omega (arith, y, z, u, v),
+)
 
 pub s_name_field : (line : ℕ) (b : Bytes) (c : Counts) (ts : List Tok) → wp some_fields (program (r.name_field line b c)) ts (Post some_fields (r.name_field line b c) ts)
 s_name_field line b c [] = from_name line b c []
 s_name_field line b c (tok (key w.assign) at ∷ ts) = λ e us l h fs vs m k.
-    let g = h (omega arith) in
-    (k.0, λ at2 q. subst (λ line. FieldList (keyed_and (str line b) e fs) (tok (w.name b) at2 ∷ tok (key w.assign) at ∷ ts) (tok (key w.close_brace) k.0 ∷ vs)) (sym q) (named_field g.0 k.1),
-     λ x. let y = g.2 x in let z = k.2 x in omega (arith, y, z))
+    let g = h (omega arith) in (
+      k.0,
+      λ at2 q. subst (λ line. FieldList (keyed_and (str line b) e fs) (tok (w.name b) at2 ∷ tok (key w.assign) at ∷ ts) (tok (key w.close_brace) k.0 ∷ vs)) (sym q) (named_field g.0 k.1),
+      λ x. let y = g.2 x in let z = k.2 x in omega (arith, y, z),
+    )
 s_name_field line b c (tok v at ∷ ts) = from_name line b c (tok v at ∷ ts)
