@@ -17,3 +17,5 @@ pub mod Partly
 pub mod Alive
 pub mod Closers
 pub mod Viable
+pub mod Names
+pub mod Exactly

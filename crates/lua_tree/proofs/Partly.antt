@@ -47,19 +47,19 @@ abbrev tail_of : List Tok → List Tok
 tail_of [] = []
 tail_of (t ∷ ts) = ts
 
-empty_split : (pre : List Tok) (t : Tok) (more : List Tok) → [] ≡ pre ++ t ∷ more → ⊥
+pub empty_split : (pre : List Tok) (t : Tok) (more : List Tok) → [] ≡ pre ++ t ∷ more → ⊥
 empty_split [] t more h = grind (arith, h)
 empty_split (u ∷ pre) t more h = grind (arith, h)
 
 -- where a token of two lists stands: in the first one or in the second one
-abbrev Stands : List Tok → List Tok → List Tok → Tok → List Tok → Type 0
+abbrev pub Stands : List Tok → List Tok → List Tok → Tok → List Tok → Type 0
 Stands xs ys pre t more = ((m : List Tok) × (xs ≡ pre ++ t ∷ m)) ⊎ ((post : List Tok) × (pre ≡ xs ++ post) × (ys ≡ post ++ t ∷ more))
 
 stands_more : (x : Tok) (xs ys pre : List Tok) (t : Tok) (more : List Tok) → Stands xs ys pre t more → Stands (x ∷ xs) ys (x ∷ pre) t more
 stands_more x xs ys pre t more (inl h) = inl (h.0, ap (λ vs. x ∷ vs) h.1)
 stands_more x xs ys pre t more (inr h) = inr (h.0, ap (λ vs. x ∷ vs) h.1, h.2)
 
-stands : (xs ys pre : List Tok) (t : Tok) (more : List Tok) → xs ++ ys ≡ pre ++ t ∷ more → Stands xs ys pre t more
+pub stands : (xs ys pre : List Tok) (t : Tok) (more : List Tok) → xs ++ ys ≡ pre ++ t ∷ more → Stands xs ys pre t more
 stands [] ys pre t more h = inr (pre, refl, h)
 stands (x ∷ xs) ys [] t more h = inl (xs, ap (λ u. u ∷ xs) (ap (head_or x) h))
 stands (x ∷ xs) ys (u ∷ pre) t more h =

@@ -21,16 +21,16 @@ s_params n [] = λ v us l h. (h.0, λ x. let y = h.2 x in omega (arith, y))
 s_params n (tok (key w.close_paren) at ∷ ts) = (no_params, λ x. let y = end_at x (n + 0) n (omega arith) in omega (arith, y))
 s_params n (tok v at ∷ ts) = λ v us l h. (h.0, λ x. let y = h.2 x in omega (arith, y))
 
-
 step_names : (x : Limit) (n k : ℕ) (l m : ℕ) → max (at_end x (suc n)) l ≡ at_end x (suc n + k) → max (at_end x n) (max (many (suc n) x) l) ≡ at_end x (n + suc k)
 step_names x n k l m h = let y = many_is x (suc n) in let z = end_up x n (suc n) (omega arith) in let v = end_at x (suc n + k) (n + suc k) (omega arith) in omega (arith, h, y, z, v)
 
 pub s_next_param : (n : ℕ) (ts : List Tok) → wp some_params (program (r.next_param n)) ts (Post some_params (r.next_param n) ts)
 s_next_param n [] = tt
-s_next_param n (tok (key w.dots) at ∷ ts) = λ at2 us q.
-    (subst (λ ts. Params [] true (tok (key w.dots) at ∷ ts) us) (sym q) only_dots,
-     λ b at3 at4. subst (λ ts. Params (b ∷ []) true (tok (w.name b) at3 ∷ tok (key w.comma) at4 ∷ tok (key w.dots) at ∷ ts) us) (sym q) (names_dots one_name),
-     λ x. let y = end_at x (n + 0) n (omega arith) in omega (arith, y))
+s_next_param n (tok (key w.dots) at ∷ ts) = λ at2 us q. (
+  subst (λ ts. Params [] true (tok (key w.dots) at ∷ ts) us) (sym q) only_dots,
+  λ b at3 at4. subst (λ ts. Params (b ∷ []) true (tok (w.name b) at3 ∷ tok (key w.comma) at4 ∷ tok (key w.dots) at ∷ ts) us) (sym q) (names_dots one_name),
+  λ x. let y = end_at x (n + 0) n (omega arith) in omega (arith, y),
+)
 s_next_param n (tok (w.name b) at ∷ ts) = λ v us l h.
     (h.0 b at, λ b2 at3 at4. name_before b b2 v.0 v.1 at at3 at4 ts us (h.0 b at), λ x. let y = step_names x n (length v.0) (l x) 0 (h.1 x) in omega (arith, y))
   where
@@ -47,32 +47,36 @@ s_more_params n (tok v at ∷ ts) = tt
 
 pub s_more_names : (n : ℕ) (ts : List Tok) → wp some_names (program (r.more_names n)) ts (Post some_names (r.more_names n) ts)
 s_more_names n [] = (λ b at. one_name, λ x. let y = end_at x (n + 0) n (omega arith) in omega (arith, y))
-s_more_names n (tok (key w.comma) at ∷ ts) = λ b at2 us q xs vs l h.
-    (λ b2 at3. subst (λ ts. NameList (b2 ∷ b ∷ xs) (tok (w.name b2) at3 ∷ tok (key w.comma) at ∷ ts) vs) (sym q) (name_and (h.0 b at2)),
-     λ x. let y = step_names x n (length xs) (l x) 0 (h.1 x) in omega (arith, y))
+s_more_names n (tok (key w.comma) at ∷ ts) = λ b at2 us q xs vs l h. (
+  λ b2 at3. subst (λ ts. NameList (b2 ∷ b ∷ xs) (tok (w.name b2) at3 ∷ tok (key w.comma) at ∷ ts) vs) (sym q) (name_and (h.0 b at2)),
+  λ x. let y = step_names x n (length xs) (l x) 0 (h.1 x) in omega (arith, y),
+)
 s_more_names n (tok v at ∷ ts) = (λ b at. one_name, λ x. let y = end_at x (n + 0) n (omega arith) in omega (arith, y))
 
 pub s_func_name : (c : Counts) (a : Expr) (ts : List Tok) → wp a_target (program (r.func_name c a)) ts (Post a_target (r.func_name c a) ts)
 s_func_name c a [] = (λ ts0 h. plain_name h, λ x. let y = end_none x in omega (arith, y))
-s_func_name c a (tok (key w.dot) at ∷ ts) = λ b at2 us q v vs l h.
-    (λ ts0 p. h.0 ts0 (dot_path (subst (λ ts. NamePath a ts0 (tok (key w.dot) at ∷ ts)) q p)),
-     λ x. let y = h.1 x in let z = pushed x c a in let n = node_below x (c x) a in let o = node_in x (under x (c x)) a in omega (arith, y, z, n, o))
-s_func_name c a (tok (key w.colon) at ∷ ts) = λ b at2 us q.
-    (λ ts0 p. method_name (subst (λ ts. NamePath a ts0 (tok (key w.colon) at ∷ ts)) q p),
-     λ x. let z = pushed x c a in let n = node_below x (c x) a in let o = node_in x (under x (c x)) a in let y = many_is x 1 in omega (arith, z, n, o, y))
+s_func_name c a (tok (key w.dot) at ∷ ts) = λ b at2 us q v vs l h. (
+  λ ts0 p. h.0 ts0 (dot_path (subst (λ ts. NamePath a ts0 (tok (key w.dot) at ∷ ts)) q p)),
+  λ x. let y = h.1 x in let z = pushed x c a in let n = node_below x (c x) a in let o = node_in x (under x (c x)) a in omega (arith, y, z, n, o),
+)
+s_func_name c a (tok (key w.colon) at ∷ ts) = λ b at2 us q. (
+  λ ts0 p. method_name (subst (λ ts. NamePath a ts0 (tok (key w.colon) at ∷ ts)) q p),
+  λ x. let z = pushed x c a in let n = node_below x (c x) a in let o = node_in x (under x (c x)) a in let y = many_is x 1 in omega (arith, z, n, o, y),
+)
 s_func_name c a (tok v at ∷ ts) = (λ ts0 h. plain_name h, λ x. let y = end_none x in omega (arith, y))
 
 -- ---- function bodies
 
 pub s_func_body : (line : ℕ) (hidden : List Bytes) (c : Counts) (ts : List Tok) → wp a_func (program (r.func_body line hidden c)) ts (Post a_func (r.func_body line hidden c) ts)
-s_func_body line hidden c ts = λ at us q v vs l h b ws m g at2 xs q2.
-    (subst (λ ts. Body line hidden (func line (hidden ++ v.0) v.1 b) ts xs) (sym q) (body h.0 (subst (Stats b vs) q2 g.0)),
-     λ x.
-        let y = h.1 x in
-        let z = g.1 x in
-        let i = end_inside x (hidden ++ v.0) v.1 (c x) in
-        let j = end_at x (length (hidden ++ v.0)) (length hidden + length v.0) (length-append hidden v.0) in
-        omega (arith, y, z, i, j))
+s_func_body line hidden c ts = λ at us q v vs l h b ws m g at2 xs q2. (
+  subst (λ ts. Body line hidden (func line (hidden ++ v.0) v.1 b) ts xs) (sym q) (body h.0 (subst (Stats b vs) q2 g.0)),
+  λ x.
+      let y = h.1 x in
+      let z = g.1 x in
+      let i = end_inside x (hidden ++ v.0) v.1 (c x) in
+      let j = end_at x (length (hidden ++ v.0)) (length hidden + length v.0) (length-append hidden v.0) in
+      omega (arith, y, z, i, j),
+)
 
 -- ---- blocks
 
@@ -88,9 +92,10 @@ from_stat : (c : Counts) (ts : List Tok) → wp a_block (with_stat c) ts (Post a
 from_stat c ts = λ st us l h u vs l2 s b ws l3 g. (a_stat h.0 s.0 g.0, λ x. let y = h.1 x in let z = s.1 x in let v = g.1 x in omega (arith, y, z, v))
 
 from_last : (c : Counts) (ts : List Tok) → wp a_block (with_last c) ts (Post a_block (r.block c) ts)
-from_last c ts = λ st us l h u vs l2 s.
-    (last_stat h.0 s.0,
-     λ x. let y = h.2 x in let z = s.1 x in let e = end_of_named x (declared st) (c x) in let d = h.1 in let v = end_at x (c x + declared st) (c x) (omega (arith, d)) in omega (arith, y, z, e, v))
+from_last c ts = λ st us l h u vs l2 s. (
+  last_stat h.0 s.0,
+  λ x. let y = h.2 x in let z = s.1 x in let e = end_of_named x (declared st) (c x) in let d = h.1 in let v = end_at x (c x + declared st) (c x) (omega (arith, d)) in omega (arith, y, z, e, v),
+)
 
 nothing : (c : Counts) (ts : List Tok) → wp a_block (give no_stats) ts (Post a_block (r.block c) ts)
 nothing c ts = (no_stat, λ x. omega arith)
@@ -118,7 +123,6 @@ s_loop_block k c ts = λ at us q b vs l h at2 ws q2. (at, us, at2, q, subst (Sta
 none_named : (x : Limit) (n : ℕ) → at_end x (named x 0 n) ≡ at_end x n
 none_named x n = end_of_named x 0 n ∙ end_at x (n + 0) n (omega arith)
 
-
 lead_stat : (c : Counts) (ts : List Tok) → wp a_stat (then (r.prefix leading c) (λ e. then (r.prefix_stat (first_line ts) c e) give)) ts (Post a_stat (r.stat c) ts)
 lead_stat c ts = λ e us l h st vs m g. (g.0 ts (not_open (word_of us) h.1) h.0 refl, λ x. let y = h.2 x in let z = g.1 x in omega (arith, y, z))
 
@@ -127,24 +131,28 @@ s_stat c [] = lead_stat c []
 s_stat c (tok (key w.do_) at ∷ ts) = λ b us l h at2 vs q.
     (do_of (subst (Stats b ts) q h.0), λ x. let y = h.1 x in let d = one_deep x c in let e = end_under x (c x) in let n = none_named x (c x) in omega (arith, y, d, e, n))
 s_stat c (tok (key w.while_) at ∷ ts) = λ e us l h b vs m g.
-    let i = h (omega arith) in
-    (while_of (subst (Exp 0 e ts) g.3 i.0) g.4,
-     λ x. let y = i.2 x in let z = g.5 x in let d = one_deep x c in let n = none_named x (c x) in let o = end_of_looped x 0 (c x) in let p = end_at x (c x + 0) (c x) (omega arith) in omega (arith, y, z, d, n, o, p))
+    let i = h (omega arith) in (
+      while_of (subst (Exp 0 e ts) g.3 i.0) g.4,
+      λ x. let y = i.2 x in let z = g.5 x in let d = one_deep x c in let n = none_named x (c x) in let o = end_of_looped x 0 (c x) in let p = end_at x (c x + 0) (c x) (omega arith) in omega (arith, y, z, d, n, o, p),
+    )
 s_stat c (tok (key w.repeat_) at ∷ ts) = λ b us l h at2 vs q e ws m g.
-    let i = g (omega arith) in
-    (repeat_of (subst (Stats b ts) q h.0) i.0,
-     λ x. let y = h.1 x in let z = i.2 x in let d = one_deep x c in let n = none_named x (c x) in let o = end_of_looped x 0 (c x) in let p = end_at x (c x + 0) (c x) (omega arith) in omega (arith, y, z, d, n, o, p))
+    let i = g (omega arith) in (
+      repeat_of (subst (Stats b ts) q h.0) i.0,
+      λ x. let y = h.1 x in let z = i.2 x in let d = one_deep x c in let n = none_named x (c x) in let o = end_of_looped x 0 (c x) in let p = end_at x (c x + 0) (c x) (omega arith) in omega (arith, y, z, d, n, o, p),
+    )
 s_stat c (tok (key w.if_) at ∷ ts) = λ xs us l h.
     (if_of h.0, λ x. let y = h.1 x in let d = one_deep x c in let n = none_named x (c x) in let a = arms_node x (c x) xs ts us h.0 in omega (arith, y, d, n, a))
   where
     arms_node : (x : Limit) (n : ℕ) (xs : Arms) (ts us : List Tok) → ArmsOf xs ts us → node x n ≤ most_arms x n xs
     arms_node x n xs ts us (arm_of {e = e} d s m) = let y = node_in x n e in omega (arith, y)
-s_stat c (tok (key w.for_) at ∷ ts) = λ b at2 us q st vs l h.
-    (subst (λ ts. StatOf st (tok (key w.for_) at ∷ ts) vs) (sym q) (h.0 at at2 refl),
-     λ x. let y = h.1 x in let d = one_deep x c in let m = many_more x c in let e = end_up x (c x) (suc (c x)) (omega arith) in omega (arith, y, d, m, e))
-s_stat c (tok (key w.function_) at ∷ ts) = λ b at2 us q t vs l h f ws m g.
-    (subst (λ ts. StatOf (function_stat at.line t.0 f) (tok (key w.function_) at ∷ ts) ws) (sym q) (function_of (h.0 (tok (w.name b) at2 ∷ us) one_path) g.0),
-     λ x. let y = h.1 x in let z = g.1 x in let d = one_deep x c in let n = none_named x (c x) in omega (arith, y, z, d, n))
+s_stat c (tok (key w.for_) at ∷ ts) = λ b at2 us q st vs l h. (
+  subst (λ ts. StatOf st (tok (key w.for_) at ∷ ts) vs) (sym q) (h.0 at at2 refl),
+  λ x. let y = h.1 x in let d = one_deep x c in let m = many_more x c in let e = end_up x (c x) (suc (c x)) (omega arith) in omega (arith, y, d, m, e),
+)
+s_stat c (tok (key w.function_) at ∷ ts) = λ b at2 us q t vs l h f ws m g. (
+  subst (λ ts. StatOf (function_stat at.line t.0 f) (tok (key w.function_) at ∷ ts) ws) (sym q) (function_of (h.0 (tok (w.name b) at2 ∷ us) one_path) g.0),
+  λ x. let y = h.1 x in let z = g.1 x in let d = one_deep x c in let n = none_named x (c x) in omega (arith, y, z, d, n),
+)
 s_stat c (tok (key w.local_) at ∷ ts) = λ st us l h. (h.0 at refl, λ x. let y = h.1 x in omega (arith, y))
 s_stat c (tok v at ∷ ts) = lead_stat c (tok v at ∷ ts)
 
@@ -170,12 +178,14 @@ call_in e ts us (var_prefix (dot_var p)) q = absurd (subst (IsShape a_var) q tt)
 call_in e ts us (paren_prefix h) q = absurd (subst (IsShape a_paren) q tt)
 
 by_shape : (line : ℕ) (c : Counts) (e : Expr) (ts : List Tok) (sh : Shape) → shape e ≡ sh → wp a_stat (prefix_stat_of line c e sh) ts (Post a_stat (r.prefix_stat line c e) ts)
-by_shape line c e ts a_var q = λ es us l h at vs q2 xs ws m g.
-    (λ ts0 no p lq. subst (λ line. StatOf (assign line (expr_and e es) xs) ts0 ws) (sym lq) (assign_of (subst (VarList (expr_and e es) ts0) q2 (h.0 e ts0 (var_of e ts0 ts p q))) g.0),
-     λ x. let y = h.1 x in let z = g.1 x in let n = none_named x (c x) in let k = ap (λ sh. most x (held (unfinished leading sh) c x) e) q in omega (arith, y, z, n, k))
-by_shape line c e ts a_call q =
-    (λ ts0 no p lq. subst (λ line. StatOf (call_stat line e) ts0 ts) (sym lq) (call_of (call_in e ts0 ts p q) no),
-     λ x. let n = none_named x (c x) in let k = ap (λ sh. most x (held (unfinished leading sh) c x) e) q in omega (arith, n, k))
+by_shape line c e ts a_var q = λ es us l h at vs q2 xs ws m g. (
+  λ ts0 no p lq. subst (λ line. StatOf (assign line (expr_and e es) xs) ts0 ws) (sym lq) (assign_of (subst (VarList (expr_and e es) ts0) q2 (h.0 e ts0 (var_of e ts0 ts p q))) g.0),
+  λ x. let y = h.1 x in let z = g.1 x in let n = none_named x (c x) in let k = ap (λ sh. most x (held (unfinished leading sh) c x) e) q in omega (arith, y, z, n, k),
+)
+by_shape line c e ts a_call q = (
+  λ ts0 no p lq. subst (λ line. StatOf (call_stat line e) ts0 ts) (sym lq) (call_of (call_in e ts0 ts p q) no),
+  λ x. let n = none_named x (c x) in let k = ap (λ sh. most x (held (unfinished leading sh) c x) e) q in omega (arith, n, k),
+)
 by_shape line c e ts a_paren q = tt
 
 pub s_prefix_stat : (line : ℕ) (c : Counts) (e : Expr) (ts : List Tok) → wp a_stat (program (r.prefix_stat line c e)) ts (Post a_stat (r.prefix_stat line c e) ts)
@@ -183,9 +193,10 @@ s_prefix_stat line c e ts = by_shape line c e ts (shape e) refl
 
 target_by : (c : Counts) (at : Spot) (ts : List Tok) (e : Expr) (us : List Tok) (l : Needs) → Prefix e ts us → ((x : Limit) → l x ≡ most x (held (unfinished targeted (shape e)) c x) e) → (sh : Shape) → shape e ≡ sh
     → wp some_targets (target_of c e sh) us (λ es vs m. Post some_targets (r.more_targets c) (tok (key w.comma) at ∷ ts) es vs (both free (both l m)))
-target_by c at ts e us l p i a_var q = λ es vs m g.
-    (λ e0 ts0 v. var_and v (g.0 e ts (var_of e ts us p q)),
-     λ x. let y = i x in let z = g.1 x in let k = ap (λ sh. most x (held (unfinished targeted sh) c x) e) q in omega (arith, y, z, k))
+target_by c at ts e us l p i a_var q = λ es vs m g. (
+  λ e0 ts0 v. var_and v (g.0 e ts (var_of e ts us p q)),
+  λ x. let y = i x in let z = g.1 x in let k = ap (λ sh. most x (held (unfinished targeted sh) c x) e) q in omega (arith, y, z, k),
+)
 target_by c at ts e us l p i a_call q = tt
 target_by c at ts e us l p i a_paren q = tt
 
@@ -223,14 +234,15 @@ gen_sum e1 nd l es nn k mb en m h i j q = ap (λ m. max (max e1 nd) (max l (max 
 
 from_names : (line : ℕ) (b : Bytes) (c : Counts) (ts : List Tok)
     → wp a_stat (then (r.more_names (suc (c locals))) (λ xs. expect w.in_ free (λ s. then (r.exprs c) (λ es. then (r.loop_block (length (b ∷ xs)) c) (λ d. give (gen_for line (b ∷ xs) es d)))))) ts (Post a_stat (r.for_rest line b c) ts)
-from_names line b c ts = λ xs us l h at2 vs q es ws m g d ys n i.
-    (λ at3 at4 lq. subst (λ line. StatOf (gen_for line (b ∷ xs) es d) (tok (key w.for_) at3 ∷ tok (w.name b) at4 ∷ ts) ys) (sym lq) (gen_for_of (subst (NameList (b ∷ xs) (tok (w.name b) at4 ∷ ts)) q (h.0 b at4)) (subst (ExpList es vs) i.3 g.0) i.4),
-     λ x.
-        let p = none_named x (c x) in
-        let u = end_up x (c x) (suc (c x)) (omega arith) in
-        let s = gen_sum (at_end x (suc (c x))) (node x (c x)) (l x) (most_exprs x (c x) es) (n x) (at_end x (c x + suc (length xs))) (most_block x (in_loop (suc (length xs)) c x) d) (at_end x (named x 0 (c x))) (m x)
-            (names_end x c (length xs) (l x) (h.1 x)) (ap (λ k. max k (n x)) (sym (end_of_looped x (suc (length xs)) (c x))) ∙ i.5 x) (omega (arith, p, u)) (g.1 x) in
-        omega (arith, s))
+from_names line b c ts = λ xs us l h at2 vs q es ws m g d ys n i. (
+  λ at3 at4 lq. subst (λ line. StatOf (gen_for line (b ∷ xs) es d) (tok (key w.for_) at3 ∷ tok (w.name b) at4 ∷ ts) ys) (sym lq) (gen_for_of (subst (NameList (b ∷ xs) (tok (w.name b) at4 ∷ ts)) q (h.0 b at4)) (subst (ExpList es vs) i.3 g.0) i.4),
+  λ x.
+      let p = none_named x (c x) in
+      let u = end_up x (c x) (suc (c x)) (omega arith) in
+      let s = gen_sum (at_end x (suc (c x))) (node x (c x)) (l x) (most_exprs x (c x) es) (n x) (at_end x (c x + suc (length xs))) (most_block x (in_loop (suc (length xs)) c x) d) (at_end x (named x 0 (c x))) (m x)
+      (names_end x c (length xs) (l x) (h.1 x)) (ap (λ k. max k (n x)) (sym (end_of_looped x (suc (length xs)) (c x))) ∙ i.5 x) (omega (arith, p, u)) (g.1 x) in
+      omega (arith, s),
+)
 
 pub s_for_rest : (line : ℕ) (b : Bytes) (c : Counts) (ts : List Tok) → wp a_stat (program (r.for_rest line b c)) ts (Post a_stat (r.for_rest line b c) ts)
 s_for_rest line b c [] = from_names line b c []
@@ -244,45 +256,49 @@ looped_end : (x : Limit) (c : Counts) → at_end x (in_loop 1 c x) ≡ at_end x 
 looped_end x c = end_of_looped x 1 (c x) ∙ end_at x (c x + 1) (suc (c x)) (omega arith)
 
 from_block : (line : ℕ) (b : Bytes) (a e : Expr) (c : Counts) (ts : List Tok) → wp a_stat (then (r.loop_block 1 c) (λ d. give (num_for line b a e d))) ts (Post a_stat (r.num_for_rest line b a e c) ts)
-from_block line b a e c ts = λ d vs m g.
-    (λ at at2 at3 at4 mm nn lq ea ee. subst (λ line. StatOf (num_for line b a e d) (tok (key w.for_) at ∷ tok (w.name b) at2 ∷ tok (key w.assign) at3 ∷ mm) vs) (sym lq) (num_for_of ea (subst (Exp 0 e nn) g.3 ee) g.4),
-     λ x. let y = g.5 x in let o = looped_end x c in let p = none_named x (c x) in let u = end_up x (c x) (suc (c x)) (omega arith) in omega (arith, y, o, p, u))
+from_block line b a e c ts = λ d vs m g. (
+  λ at at2 at3 at4 mm nn lq ea ee. subst (λ line. StatOf (num_for line b a e d) (tok (key w.for_) at ∷ tok (w.name b) at2 ∷ tok (key w.assign) at3 ∷ mm) vs) (sym lq) (num_for_of ea (subst (Exp 0 e nn) g.3 ee) g.4),
+  λ x. let y = g.5 x in let o = looped_end x c in let p = none_named x (c x) in let u = end_up x (c x) (suc (c x)) (omega arith) in omega (arith, y, o, p, u),
+)
 
 pub s_num_for_rest : (line : ℕ) (b : Bytes) (a e : Expr) (c : Counts) (ts : List Tok) → wp a_stat (program (r.num_for_rest line b a e c)) ts (Post a_stat (r.num_for_rest line b a e c) ts)
 s_num_for_rest line b a e c [] = from_block line b a e c []
 s_num_for_rest line b a e c (tok (key w.comma) at ∷ ts) = λ s us l h d vs m g.
-    let j = h (omega arith) in
-    (λ at2 at3 at4 at5 mm nn lq ea ee. subst (λ line. StatOf (num_for_by line b a e s d) (tok (key w.for_) at2 ∷ tok (w.name b) at3 ∷ tok (key w.assign) at4 ∷ mm) vs) (sym lq) (num_for_by_of ea ee (subst (Exp 0 s ts) g.3 j.0) g.4),
-     λ x. let y = g.5 x in let z = j.2 x in let o = looped_end x c in let p = none_named x (c x) in let u = end_up x (c x) (suc (c x)) (omega arith) in omega (arith, y, z, o, p, u))
+    let j = h (omega arith) in (
+      λ at2 at3 at4 at5 mm nn lq ea ee. subst (λ line. StatOf (num_for_by line b a e s d) (tok (key w.for_) at2 ∷ tok (w.name b) at3 ∷ tok (key w.assign) at4 ∷ mm) vs) (sym lq) (num_for_by_of ea ee (subst (Exp 0 s ts) g.3 j.0) g.4),
+      λ x. let y = g.5 x in let z = j.2 x in let o = looped_end x c in let p = none_named x (c x) in let u = end_up x (c x) (suc (c x)) (omega arith) in omega (arith, y, z, o, p, u),
+    )
 s_num_for_rest line b a e c (tok v at ∷ ts) = from_block line b a e c (tok v at ∷ ts)
 
 -- ---- local, and the last statement
 
 from_local : (line : ℕ) (c : Counts) (ts : List Tok)
     → wp a_stat (expect_name (many (suc (c locals))) (λ b s. then (r.more_names (suc (c locals))) (λ xs. then (r.init c) (λ es. give (local line (b ∷ xs) es))))) ts (Post a_stat (r.local_rest line c) ts)
-from_local line c ts = λ b at us q xs vs l h es ws m g.
-    (λ at2 lq. subst (λ line. StatOf (local line (b ∷ xs) es) (tok (key w.local_) at2 ∷ ts) ws) (sym lq) (g.0 at2 (b ∷ xs) ts (subst (λ ts. NameList (b ∷ xs) ts vs) (sym q) (h.0 b at))),
-     λ x.
-        let y = names_end x c (length xs) (l x) (h.1 x) in
-        let z = g.1 x in
-        let k = many_more x c in
-        let e = end_of_named x (suc (length xs)) (c x) in
-        let u = end_up x (c x) (suc (c x)) (omega arith) in
-        omega (arith, y, z, k, e, u))
+from_local line c ts = λ b at us q xs vs l h es ws m g. (
+  λ at2 lq. subst (λ line. StatOf (local line (b ∷ xs) es) (tok (key w.local_) at2 ∷ ts) ws) (sym lq) (g.0 at2 (b ∷ xs) ts (subst (λ ts. NameList (b ∷ xs) ts vs) (sym q) (h.0 b at))),
+  λ x.
+      let y = names_end x c (length xs) (l x) (h.1 x) in
+      let z = g.1 x in
+      let k = many_more x c in
+      let e = end_of_named x (suc (length xs)) (c x) in
+      let u = end_up x (c x) (suc (c x)) (omega arith) in
+      omega (arith, y, z, k, e, u),
+)
 
 pub s_local_rest : (line : ℕ) (c : Counts) (ts : List Tok) → wp a_stat (program (r.local_rest line c)) ts (Post a_stat (r.local_rest line c) ts)
 s_local_rest line c [] = from_local line c []
-s_local_rest line c (tok (key w.function_) at ∷ ts) = λ b at2 us q f vs l h.
-    (λ at3 lq. subst (λ line. StatOf (local_function line b f) (tok (key w.local_) at3 ∷ tok (key w.function_) at ∷ ts) vs) (sym lq) (subst (λ ts. StatOf (local_function at3.line b f) (tok (key w.local_) at3 ∷ tok (key w.function_) at ∷ ts) vs) (sym q) (local_function_of h.0)),
-     λ x.
-        let y = h.1 x in
-        let d = one_deep x c in
-        let k = many_more x c in
-        let e = end_of_named x 1 (c x) in
-        let i = end_at x (c x + 1) (suc (c x)) (omega arith) in
-        let u = end_up x (c x) (suc (c x)) (omega arith) in
-        let o = end_none x in
-        omega (arith, y, d, k, e, i, u, o))
+s_local_rest line c (tok (key w.function_) at ∷ ts) = λ b at2 us q f vs l h. (
+  λ at3 lq. subst (λ line. StatOf (local_function line b f) (tok (key w.local_) at3 ∷ tok (key w.function_) at ∷ ts) vs) (sym lq) (subst (λ ts. StatOf (local_function at3.line b f) (tok (key w.local_) at3 ∷ tok (key w.function_) at ∷ ts) vs) (sym q) (local_function_of h.0)),
+  λ x.
+      let y = h.1 x in
+      let d = one_deep x c in
+      let k = many_more x c in
+      let e = end_of_named x 1 (c x) in
+      let i = end_at x (c x + 1) (suc (c x)) (omega arith) in
+      let u = end_up x (c x) (suc (c x)) (omega arith) in
+      let o = end_none x in
+      omega (arith, y, d, k, e, i, u, o),
+)
 s_local_rest line c (tok v at ∷ ts) = from_local line c (tok v at ∷ ts)
 
 list_node : (x : Limit) (n : ℕ) (es : Exprs) (ts us : List Tok) → ExpList es ts us → node x n ≤ most_exprs x n es
@@ -321,9 +337,10 @@ s_return_rest line c (tok v at ∷ ts) = with_values line c (tok v at ∷ ts)
 
 pub s_arms : (c : Counts) (ts : List Tok) → wp some_arms (program (r.arms c)) ts (Post some_arms (r.arms c) ts)
 s_arms c ts = λ e us l h at vs q b ws m g xs ys n i.
-    let j = h (omega arith) in
-    (arm_of (subst (Exp 0 e ts) q j.0) g.0 i.0,
-     λ x. let y = j.2 x in let z = g.1 x in let v = i.1 x in let o = node_in x (c x) e in let u = end_under x (c x) in omega (arith, y, z, v, o, u))
+    let j = h (omega arith) in (
+      arm_of (subst (Exp 0 e ts) q j.0) g.0 i.0,
+      λ x. let y = j.2 x in let z = g.1 x in let v = i.1 x in let o = node_in x (c x) e in let u = end_under x (c x) in omega (arith, y, z, v, o, u),
+    )
 
 pub s_more_arms : (c : Counts) (ts : List Tok) → wp some_arms (program (r.more_arms c)) ts (Post some_arms (r.more_arms c) ts)
 s_more_arms c [] = tt
