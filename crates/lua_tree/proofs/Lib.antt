@@ -19,3 +19,5 @@ pub mod Closers
 pub mod Viable
 pub mod Names
 pub mod Exactly
+pub mod Precedence
+pub mod Rows
