@@ -169,7 +169,8 @@ behind_some (r.more_exprs c) = (tt, tt, tt)
 behind_some r.chunk = refl
 behind_some _ = tt
 
-done_now : (s : Sort) (p : Prog s) (t : Tok) (n : Needs) (b : Bool) (F : List Tok → Type 0) (G : Value s → Type 0) (m : Needs) → b ≡ is_name (word_in t) → Closed s p F G b (both m n) → Done s (take n p) [] t F G m n
+done_now : (s : Sort) (p : Prog s) (t : Tok) (n : Needs) (b : Bool) (F : List Tok → Type 0) (G : Value s → Type 0) (m : Needs)
+    → b ≡ is_name (word_in t) → Closed s p F G b (both m n) → Done s (take n p) [] t F G m n
 done_now s p t n b F G m e k =
     record {
       tokens = k.tokens;
@@ -180,11 +181,13 @@ done_now s p t n b F G m e k =
       within = λ x h. let y = k.within x (subst (λ d. Counted d x) (sym e) h) in omega (arith, y);
     }
 
-done_key : (s : Sort) (k : Key) (n : Needs) (f : Spot → Prog s) (at : Spot) (F : List Tok → Type 0) (G : Value s → Type 0) (m : Needs) → Closed s (f at) F G false (both m n) → Done s (expect k n f) [] (tok (key k) at) F G m n
+done_key : (s : Sort) (k : Key) (n : Needs) (f : Spot → Prog s) (at : Spot) (F : List Tok → Type 0) (G : Value s → Type 0) (m : Needs)
+    → Closed s (f at) F G false (both m n) → Done s (expect k n f) [] (tok (key k) at) F G m n
 done_key s k n f at F G m d =
     record { tokens = d.tokens; value = d.value; log = both n d.log; comes = λ us h. c.expects (d.comes us h); good = d.good; within = λ x h. let y = d.within x h in omega (arith, y) }
 
-done_name : (s : Sort) (n : Needs) (f : Bytes → Spot → Prog s) (b : Bytes) (at : Spot) (F : List Tok → Type 0) (G : Value s → Type 0) (m : Needs) → Closed s (f b at) F G true (both m n) → Done s (expect_name n f) [] (tok (w.name b) at) F G m n
+done_name : (s : Sort) (n : Needs) (f : Bytes → Spot → Prog s) (b : Bytes) (at : Spot) (F : List Tok → Type 0) (G : Value s → Type 0) (m : Needs)
+    → Closed s (f b at) F G true (both m n) → Done s (expect_name n f) [] (tok (w.name b) at) F G m n
 done_name s n f b at F G m d =
     record { tokens = d.tokens; value = d.value; log = both n d.log; comes = λ us h. c.expects_name (d.comes us h); good = d.good; within = λ x h. let y = d.within x h in omega (arith, y) }
 

@@ -104,12 +104,14 @@ behind_suffix (key w.open_brace) h o = h
 behind_suffix (w.str x) h o = h
 behind_suffix v h o = tt
 
-pub more_comes : (p : ℕ) (c : Counts) (e : Expr) (us : List Tok) → BehindExp us → Comes an_expr (program (r.more p c e)) us e us free
+pub more_comes : (p : ℕ) (c : Counts) (e : Expr) (us : List Tok) → BehindExp us
+    → Comes an_expr (program (r.more p c e)) us e us free
 more_comes p c e [] h = cm.looks cm.gives
 more_comes p c e (tok (w.op o) s ∷ us) h = absurd h.0
 more_comes p c e (tok v s ∷ us) h = cm.looks cm.gives
 
-pub suffixes_come : (k : Place) (c : Counts) (e : Expr) (us : List Tok) → NotSuffix (word_of us) → Comes an_expr (program (r.suffixes k c e)) us e us free
+pub suffixes_come : (k : Place) (c : Counts) (e : Expr) (us : List Tok) → NotSuffix (word_of us)
+    → Comes an_expr (program (r.suffixes k c e)) us e us free
 suffixes_come k c e [] h = cm.looks cm.gives
 suffixes_come k c e (tok (key w.open_bracket) s ∷ us) h = absurd h
 suffixes_come k c e (tok (key w.dot) s ∷ us) h = absurd h
@@ -193,24 +195,28 @@ closed_args n c b m h =
 abbrev pub Finished : Place → Expr → Type 0
 Finished k e = unfinished k (shape e) ≡ false
 
-pub finished : (k : Place) (c : Counts) (a : Expr) (b : Bool) (m : Needs) → Finished k a → Closed an_expr (program (r.suffixes k c a)) BehindExp (Finished k) b m
+pub finished : (k : Place) (c : Counts) (a : Expr) (b : Bool) (m : Needs) → Finished k a
+    → Closed an_expr (program (r.suffixes k c a)) BehindExp (Finished k) b m
 finished k c a b m g = ends an_expr (program (r.suffixes k c a)) BehindExp (Finished k) b m [] a (λ us h. suffixes_come k c a us (behind_suffix (word_of us) h.0 h.1)) g (λ x h. omega arith)
 
 -- by one more index
-indexed : (c : Counts) (a : Expr) (b : Bool) (m : Needs) → suc (c nodes) + height a ≤ m nodes → Closed an_expr (program (r.suffixes targeted c a)) BehindExp (Finished targeted) b m
+indexed : (c : Counts) (a : Expr) (b : Bool) (m : Needs) → suc (c nodes) + height a ≤ m nodes
+    → Closed an_expr (program (r.suffixes targeted c a)) BehindExp (Finished targeted) b m
 indexed c a b m h =
     ends an_expr (program (r.suffixes targeted c a)) BehindExp (Finished targeted) b m (at w.dot ∷ a_name ∷ []) (index 1 a (str 1 []))
     (λ us i. cm.looks (cm.takes (cm.expects_name (cm.thens (suffixes_come targeted c (index 1 a (str 1 [])) us (behind_suffix (word_of us) i.0 i.1)) cm.gives)))) refl
     (λ x i. let y = deep_within b (suc (c nodes) + height a) m h x i in omega (arith, y))
 
 -- by a call
-invoked : (c : Counts) (a : Expr) (b : Bool) (m : Needs) → suc (c nodes) + height a ≤ m nodes → Closed an_expr (program (r.suffixes leading c a)) BehindExp (Finished leading) b m
+invoked : (c : Counts) (a : Expr) (b : Bool) (m : Needs) → suc (c nodes) + height a ≤ m nodes
+    → Closed an_expr (program (r.suffixes leading c a)) BehindExp (Finished leading) b m
 invoked c a b m h =
     ends an_expr (program (r.suffixes leading c a)) BehindExp (Finished leading) b m (at w.open_paren ∷ at w.close_paren ∷ []) (call 1 a no_exprs)
     (λ us i. cm.looks (cm.thens (cm.looks (cm.takes (cm.thens (cm.looks (cm.takes cm.gives)) cm.gives))) (cm.thens (suffixes_come leading c (call 1 a no_exprs) us (behind_suffix (word_of us) i.0 i.1)) cm.gives))) refl
     (λ x i. let y = deep_within b (suc (c nodes) + height a) m h x i in let v = opening_deep x (suc (c nodes) + height a) in omega (arith, y, v))
 
-by_shape : (k : Place) (sh : Shape) (c : Counts) (a : Expr) (b : Bool) (m : Needs) → shape a ≡ sh → held (unfinished k sh) c nodes + height a ≤ m nodes
+by_shape : (k : Place) (sh : Shape) (c : Counts) (a : Expr) (b : Bool) (m : Needs) → shape a ≡ sh
+    → held (unfinished k sh) c nodes + height a ≤ m nodes
     → Closed an_expr (program (r.suffixes k c a)) BehindExp (Finished k) b m
 by_shape k a_var c a b m e h = finished k c a b m (ap (unfinished k) e)
 by_shape in_expr a_call c a b m e h = finished in_expr c a b m (ap (unfinished in_expr) e)
@@ -221,11 +227,13 @@ by_shape leading a_paren c a b m e h = invoked c a b m h
 by_shape targeted a_paren c a b m e h = indexed c a b m h
 
 -- ... where the nodes of what was read so far were unavoidable
-pub closed_suffixes : (k : Place) (c : Counts) (a : Expr) (b : Bool) (m : Needs) → held (unfinished k (shape a)) c nodes + height a ≤ m nodes
+pub closed_suffixes : (k : Place) (c : Counts) (a : Expr) (b : Bool) (m : Needs)
+    → held (unfinished k (shape a)) c nodes + height a ≤ m nodes
     → Closed an_expr (program (r.suffixes k c a)) BehindExp (Finished k) b m
 closed_suffixes k c a b m h = by_shape k (shape a) c a b m refl h
 
-pub closed_prefix : (k : Place) (c : Counts) (b : Bool) (m : Needs) → Has c m → Closed an_expr (program (r.prefix k c)) BehindExp (Finished k) b m
+pub closed_prefix : (k : Place) (c : Counts) (b : Bool) (m : Needs) → Has c m
+    → Closed an_expr (program (r.prefix k c)) BehindExp (Finished k) b m
 closed_prefix k c b m h =
     ends an_expr (program (r.prefix k c)) BehindExp (Finished k) b m (a_name ∷ []) (name 1 [])
     (λ us i. cm.looks (cm.takes (cm.thens (suffixes_come k c (name 1 []) us (behind_suffix (word_of us) i.0 i.1)) cm.gives))) refl
@@ -233,7 +241,8 @@ closed_prefix k c b m h =
 
 -- ---- lists and fields
 
-pub exprs_come : (c : Counts) (us : List Tok) → NotComma (word_of us) → Comes some_exprs (program (r.more_exprs c)) us no_exprs us free
+pub exprs_come : (c : Counts) (us : List Tok) → NotComma (word_of us)
+    → Comes some_exprs (program (r.more_exprs c)) us no_exprs us free
 exprs_come c [] h = cm.looks cm.gives
 exprs_come c (tok (key w.comma) s ∷ us) h = absurd h
 exprs_come c (tok v s ∷ us) h = cm.looks cm.gives
@@ -277,7 +286,8 @@ closed_func_body l hidden c b m =
     ends a_func (program (r.func_body l hidden c)) Any Each b m (at w.open_paren ∷ at w.close_paren ∷ at w.end_ ∷ []) _
     (λ us i. cm.expects (cm.thens (cm.looks (cm.takes cm.gives)) (cm.thens (cm.looks cm.gives) (cm.expects cm.gives)))) tt (λ x i. omega arith)
 
-pub name_comes : (c : Counts) (a : Expr) (us : List Tok) → IsOpen (word_of us) → Comes a_target (program (r.func_name c a)) us (a, []) us free
+pub name_comes : (c : Counts) (a : Expr) (us : List Tok) → IsOpen (word_of us)
+    → Comes a_target (program (r.func_name c a)) us (a, []) us free
 name_comes c a [] h = absurd h
 name_comes c a (tok (key w.open_paren) s ∷ us) h = cm.looks cm.gives
 name_comes c a (tok v s ∷ us) h = absurd h
@@ -306,7 +316,8 @@ init_comes c [] h = cm.looks cm.gives
 init_comes c (tok (key w.assign) s ∷ us) h = absurd h
 init_comes c (tok v s ∷ us) h = cm.looks cm.gives
 
-pub return_comes : (l : ℕ) (c : Counts) (us : List Tok) → EndsBlock (word_of us) → Comes a_stat (program (r.return_rest l c)) us (return_stat l no_exprs) us free
+pub return_comes : (l : ℕ) (c : Counts) (us : List Tok) → EndsBlock (word_of us)
+    → Comes a_stat (program (r.return_rest l c)) us (return_stat l no_exprs) us free
 return_comes l c [] h = cm.looks cm.gives
 return_comes l c (tok (key w.end_) s ∷ us) h = cm.looks cm.gives
 return_comes l c (tok (key w.else_) s ∷ us) h = cm.looks cm.gives
@@ -320,7 +331,8 @@ names_come n [] h = cm.looks cm.gives
 names_come n (tok (key w.comma) s ∷ us) h = absurd h
 names_come n (tok v s ∷ us) h = cm.looks cm.gives
 
-pub targets_come : (c : Counts) (us : List Tok) → IsAssign (word_of us) → Comes some_targets (program (r.more_targets c)) us no_exprs us free
+pub targets_come : (c : Counts) (us : List Tok) → IsAssign (word_of us)
+    → Comes some_targets (program (r.more_targets c)) us no_exprs us free
 targets_come c [] h = absurd h
 targets_come c (tok (key w.assign) s ∷ us) h = cm.looks cm.gives
 targets_come c (tok v s ∷ us) h = absurd h
@@ -370,7 +382,8 @@ closed_num_for_rest l n a e c b m =
     ends a_stat (program (r.num_for_rest l n a e c)) Ends Each b m (at w.do_ ∷ at w.end_ ∷ []) _
     (λ us i. cm.looks (cm.thens (cm.expects (cm.thens (cm.looks cm.gives) (cm.expects cm.gives))) cm.gives)) tt (λ x i. omega arith)
 
-pub closed_for_rest : (l : ℕ) (n : Bytes) (c : Counts) (b : Bool) (m : Needs) → Has c m → Closed a_stat (program (r.for_rest l n c)) Ends Each b m
+pub closed_for_rest : (l : ℕ) (n : Bytes) (c : Counts) (b : Bool) (m : Needs) → Has c m
+    → Closed a_stat (program (r.for_rest l n c)) Ends Each b m
 closed_for_rest l n c b m h =
     ends a_stat (program (r.for_rest l n c)) Ends Each b m (at w.in_ ∷ at w.nil_ ∷ at w.do_ ∷ at w.end_ ∷ []) _
     (λ us i. cm.looks (cm.thens (cm.looks cm.gives) (cm.expects (cm.thens (cm.thens (cm.thens (cm.looks (cm.takes cm.gives)) (cm.thens (cm.looks cm.gives) cm.gives)) (cm.thens (cm.looks cm.gives) cm.gives))

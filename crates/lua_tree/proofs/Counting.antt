@@ -101,7 +101,8 @@ node_below x n e = let a = node_under x n in let b = node_in x (under x n) e in 
 pub two_in_function : (x : Limit) (n : ℕ) → node x n ≤ node x (under x n)
 two_in_function x n = node_under x n
 
-pub pushed_held : (x : Limit) (b : Bool) (c : Counts) (a : Expr) → max (most x (held b c x) a) (deep (suc (c nodes) + height a) x) ≡ most x (under x (c x)) a
+pub pushed_held : (x : Limit) (b : Bool) (c : Counts) (a : Expr)
+    → max (most x (held b c x) a) (deep (suc (c nodes) + height a) x) ≡ most x (under x (c x)) a
 pushed_held breaks true c a = omega arith
 pushed_held breaks false c a = omega arith
 pushed_held varargs true c a = omega arith
@@ -113,7 +114,8 @@ pushed_held locals false c a = omega arith
 pushed_held calls true c a = omega arith
 pushed_held calls false c a = omega arith
 
-pub opened : (x : Limit) (b b2 : Bool) (c : Counts) (a : Expr) (line : ℕ) → max (most x (held b c x) a) (opening (suc (held b2 c nodes) + height a) line x) ≡ max (at_call x line) (most x (under x (held b2 c x)) a)
+pub opened : (x : Limit) (b b2 : Bool) (c : Counts) (a : Expr) (line : ℕ)
+    → max (most x (held b c x) a) (opening (suc (held b2 c nodes) + height a) line x) ≡ max (at_call x line) (most x (under x (held b2 c x)) a)
 opened breaks true true c a line = omega arith
 opened breaks true false c a line = omega arith
 opened breaks false true c a line = omega arith

@@ -80,7 +80,8 @@ goes_on : (pre : List Tok) (t : Tok) (l : Needs) → Goes pre t l → Begins (pr
 goes_on pre t l g = (g.more, g.block, subst (λ ts. Spells g.block ts) (sym (append_assoc pre (t ∷ []) g.more)) g.spells)
 
 -- no limit that is kept is passed, and the token isn't unexpected
-no_fault : (limit : Limits) (pre : List Tok) (t : Tok) (q : List Tok) (l : Needs) (y : Fault) → Goes pre t l → ((x : Limit) → y ≡ over x → l x ≤ limit x) → At limit y pre (t ∷ q) → ⊥
+no_fault : (limit : Limits) (pre : List Tok) (t : Tok) (q : List Tok) (l : Needs) (y : Fault) → Goes pre t l
+    → ((x : Limit) → y ≡ over x → l x ≤ limit x) → At limit y pre (t ∷ q) → ⊥
 no_fault limit pre t q l unexpected g k h = h (goes_on pre t l g)
 no_fault limit pre (tok v s) q l (over x) g k h =
     let a = h.1 g.more g.block g.spells in let b = g.counts x h.0 in let c = k x refl in omega (arith, a, b, c)
@@ -102,7 +103,9 @@ lowest (over locals) = omega arith
 lowest (over calls) = omega arith
 
 -- the token, or the end, at which reading is stuck is unexpected
-at_unexpected : (limit : Limits) (ts us pre : List Tok) → ((vs : List Tok) → Alike us vs → (b : Block) (l : Needs) → Comes a_block (program chunk) (pre ++ vs) b [] l → ⊥) → At limit unexpected pre us
+at_unexpected : (limit : Limits) (ts us pre : List Tok)
+    → ((vs : List Tok) → Alike us vs → (b : Block) (l : Needs) → Comes a_block (program chunk) (pre ++ vs) b [] l → ⊥)
+    → At limit unexpected pre us
 at_unexpected limit ts [] pre h = λ b d. let c = chunk_does b pre d in h [] tt b c.0 (subst (λ ts. Comes a_block (program chunk) ts b [] c.0) (sym (behind_all pre)) c.1)
 at_unexpected limit ts (t ∷ us) pre h = λ d.
     let c = chunk_does d.1 (pre ++ t ∷ d.0) (subst (λ ts. Spells d.1 ts) (append_assoc pre (t ∷ []) d.0) d.2) in h (t ∷ d.0) refl d.1 c.0 c.1
@@ -128,7 +131,8 @@ told_of limit ts us x d pre e vs like b l c =
 no_rest : (t : Tok) (ts : List Tok) → [] ≡ t ∷ ts → ⊥
 no_rest t ts h = grind (arith, h)
 
-at_stuck : (limit : Limits) (ts us : List Tok) (x : Fault) → ReadsChunk limit ts (stuck x us) → (w : Walked limit a_block (program chunk) ts us) → At limit x w.taken us
+at_stuck : (limit : Limits) (ts us : List Tok) (x : Fault) → ReadsChunk limit ts (stuck x us)
+    → (w : Walked limit a_block (program chunk) ts us) → At limit x w.taken us
 at_stuck limit ts us unexpected d w = at_unexpected limit ts us w.taken (told_of limit ts us unexpected d w.taken w.parts)
 at_stuck limit ts us (over x) d w = over_here us (passed limit a_block (program chunk) ts x us d) d (told_of limit ts us (over x) d w.taken w.parts)
   where
@@ -144,7 +148,8 @@ at_stuck limit ts us (over x) d w = over_here us (passed limit a_block (program 
     over_here [] q d h = absurd (no_rest q.token q.rest q.stops_at)
     over_here (t ∷ vs) q d h = at_over limit x w.taken t vs (tells x t vs d) h
 
-none_lower : (limit : Limits) (ts us : List Tok) (x : Fault) → ReadsChunk limit ts (stuck x us) → (w : Walked limit a_block (program chunk) ts us) → NoneLower limit x w.taken us
+none_lower : (limit : Limits) (ts us : List Tok) (x : Fault) → ReadsChunk limit ts (stuck x us)
+    → (w : Walked limit a_block (program chunk) ts us) → NoneLower limit x w.taken us
 none_lower limit ts us unexpected d w = λ y h i. let a = lowest y in omega (arith, a, h)
 none_lower limit ts us (over x) d w = λ y h i.
     let q = passed limit a_block (program chunk) ts x us d in
@@ -174,14 +179,16 @@ one_chunk ts b c d e =
     ap (λ o. o.value) (one a_block (program chunk) ts [] b x.0 (out a_block c [] y.0) x.1 y.1)
 
 -- what is spelled and keeps the limits has no fault
-no_chunk : (limit : Limits) (b : Block) (x : Fault) (pre us : List Tok) → Spells b (pre ++ us) → ((x : Limit) → most_chunk x b ≤ limit x) → At limit x pre us → ⊥
+no_chunk : (limit : Limits) (b : Block) (x : Fault) (pre us : List Tok) → Spells b (pre ++ us)
+    → ((x : Limit) → most_chunk x b ≤ limit x) → At limit x pre us → ⊥
 no_chunk limit b unexpected pre [] s k h = h b (subst (λ ts. Spells b ts) (behind_all pre) s)
 no_chunk limit b unexpected pre (t ∷ us) s k h = h (us, b, subst (λ ts. Spells b ts) (sym (append_assoc pre (t ∷ []) us)) s)
 no_chunk limit b (over x) pre [] s k h = h
 no_chunk limit b (over x) pre (tok v at ∷ us) s k h = let a = h.1 us b s in let c = k x in omega (arith, a, c)
 
 -- of a token's faults the rest doesn't matter
-at_head : (limit : Limits) (x : Fault) (pre : List Tok) (t : Tok) (us vs : List Tok) → At limit x pre (t ∷ us) → At limit x pre (t ∷ vs)
+at_head : (limit : Limits) (x : Fault) (pre : List Tok) (t : Tok) (us vs : List Tok) → At limit x pre (t ∷ us)
+    → At limit x pre (t ∷ vs)
 at_head limit unexpected pre t us vs h = h
 at_head limit (over x) pre (tok v s) us vs h = h
 
@@ -230,10 +237,12 @@ same_number (over x) unexpected h = let a = three_at_least x in absurd (omega (a
 same_number (over x) (over y) h = ap (λ z. over z) (same_limit x y h)
 
 -- an earlier fault stands at a token that is clear
-earlier : (limit : Limits) (x : Fault) (a us b vs : List Tok) → ((t : Tok) × (q : List Tok) × (b ≡ a ++ t ∷ q) × (us ≡ t ∷ (q ++ vs))) → At limit x a us → Clear limit b → ⊥
+earlier : (limit : Limits) (x : Fault) (a us b vs : List Tok)
+    → ((t : Tok) × (q : List Tok) × (b ≡ a ++ t ∷ q) × (us ≡ t ∷ (q ++ vs))) → At limit x a us → Clear limit b → ⊥
 earlier limit x a us b vs h i k = k a h.0 h.1 h.2 x (at_head limit x a h.0 (h.1 ++ vs) h.1 (subst (λ us. At limit x a us) h.3 i))
 
-same_fault : (limit : Limits) (x y : Fault) (a us b vs : List Tok) → a ≡ b → us ≡ vs → At limit x a us → NoneLower limit x a us → At limit y b vs → NoneLower limit y b vs → x ≡ y
+same_fault : (limit : Limits) (x y : Fault) (a us b vs : List Tok) → a ≡ b → us ≡ vs → At limit x a us → NoneLower limit x a us
+    → At limit y b vs → NoneLower limit y b vs → x ≡ y
 same_fault limit x y a us b vs e f h i j k =
     let at : At limit y a us = subst (λ us. At limit y a us) (sym f) (subst (λ a. At limit y a vs) (sym e) j) in
     let at2 : At limit x b vs = subst (λ us. At limit x b us) f (subst (λ a. At limit x a us) e h) in
@@ -242,7 +251,8 @@ same_fault limit x y a us b vs e f h i j k =
     not_less : (m n : ℕ) → (m < n → ⊥) → n ≤ m
     not_less m n h = grind (arith, h)
 
-one_fault : (limit : Limits) (ts a us b vs : List Tok) (x y : Fault) → ts ≡ a ++ us → Clear limit a → At limit x a us → NoneLower limit x a us
+one_fault : (limit : Limits) (ts a us b vs : List Tok) (x y : Fault) → ts ≡ a ++ us → Clear limit a → At limit x a us
+    → NoneLower limit x a us
     → ts ≡ b ++ vs → Clear limit b → At limit y b vs → NoneLower limit y b vs → Parted a us b vs → (x ≡ y) × (us ≡ vs)
 one_fault limit ts a us b vs x y e c h i f d j k (inl p) = (same_fault limit x y a us b vs p.0 p.1 h i j k, p.1)
 one_fault limit ts a us b vs x y e c h i f d j k (inr (inl p)) = absurd (earlier limit x a us b vs p h d)

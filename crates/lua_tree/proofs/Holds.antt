@@ -6,7 +6,9 @@ use Rattle.lua_tree.proofs.Comes as c
 use Rattle.lua_tree.proofs.Comes.{Comes, both}
 use Rattle.lua_tree.proofs.Posts.{Post, wp, AllSound}
 
-pub holds : AllSound → (s : Sort) (p : Prog s) (ts us : List Tok) (a : Value s) (l : Needs) (P : Value s → List Tok → Needs → Type 0) → Comes s p ts a us l → wp s p ts P → P a us l
+pub holds : AllSound
+    → (s : Sort) (p : Prog s) (ts us : List Tok) (a : Value s) (l : Needs) (P : Value s → List Tok → Needs → Type 0)
+    → Comes s p ts a us l → wp s p ts P → P a us l
 holds h s p ts us a l P c.gives x = x
 holds h s p ts us a l P (c.takes {n = n} {l = l2} {p = p2} {ts = ts2} d) x = holds h s p2 ts2 us a l2 (λ a us l. P a us (both n l)) d x
 holds h s p ts us a l P (c.looks {f = f} d) x = holds h s (f (word_of ts) (spot_of ts)) ts us a l P d x

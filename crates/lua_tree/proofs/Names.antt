@@ -50,7 +50,8 @@ named_prefix k c (w.name x) at = (inl refl, λ d a e. tt)
 named_prefix k c (key w.open_paren) at = (inr refl, λ d a e. (refl, λ at2 f b g. tt))
 named_prefix k c v at = tt
 
-named_suffixes : (k : r.Place) (c : Counts) (a : Expr) (v : Word) (at : Spot) → named an_expr (r.suffixes_of k c a v at) (is_name v)
+named_suffixes : (k : r.Place) (c : Counts) (a : Expr) (v : Word) (at : Spot)
+    → named an_expr (r.suffixes_of k c a v at) (is_name v)
 named_suffixes k c a (key w.open_bracket) at = (inr refl, λ d e f. (refl, λ at2 g b h. tt))
 named_suffixes k c a (key w.dot) at = (inr refl, λ d x at2 e b f. tt)
 named_suffixes k c a (key w.colon) at = (inr refl, λ d x at2 e b f v g. tt)
@@ -79,7 +80,8 @@ named_fields c (key w.open_bracket) at = (inr refl, λ d k e. (refl, λ at2 f. (
 named_fields c (w.name x) at = (inl refl, λ d a e. tt)
 named_fields c v at = λ e d fs f. tt
 
-named_name_field : (l : ℕ) (x : Bytes) (c : Counts) (v : Word) (at : Spot) → named r.some_fields (r.name_field_of l x c v at) (is_name v)
+named_name_field : (l : ℕ) (x : Bytes) (c : Counts) (v : Word) (at : Spot)
+    → named r.some_fields (r.name_field_of l x c v at) (is_name v)
 named_name_field l x c (key w.assign) at = (inr refl, λ d e f fs g. tt)
 named_name_field l x c v at = λ a d e f fs g. tt
 
@@ -153,7 +155,8 @@ named_for_rest : (l : ℕ) (x : Bytes) (c : Counts) (v : Word) (at : Spot) → n
 named_for_rest l x c (key w.assign) at = (inr refl, λ d a e. (refl, λ at2 f b g y h. tt))
 named_for_rest l x c v at = λ xs d. (refl, λ at2 e es f b g. tt)
 
-named_num_for_rest : (l : ℕ) (x : Bytes) (a b : Expr) (c : Counts) (v : Word) (at : Spot) → named a_stat (r.num_for_rest_of l x a b c v at) (is_name v)
+named_num_for_rest : (l : ℕ) (x : Bytes) (a b : Expr) (c : Counts) (v : Word) (at : Spot)
+    → named a_stat (r.num_for_rest_of l x a b c v at) (is_name v)
 named_num_for_rest l x a b c (key w.comma) at = (inr refl, λ d e f y g. tt)
 named_num_for_rest l x a b c v at = λ y d. tt
 
@@ -231,7 +234,8 @@ over_plain : (limit : Limits) (n : Needs) (b : Bool) → limit locals < n locals
 over_plain limit n b h (inl e) = e
 over_plain limit n b h (inr z) = absurd (omega (arith, h, z))
 
-pub passed_at_name : (limit : Limits) (s : Sort) (p : Prog s) (ts : List Tok) (t : Tok) (us : List Tok) (b : Bool) → Reads limit s p ts (stuck (over locals) (t ∷ us)) → named s p b → b ≡ is_name (word_of ts) → is_name (word_in t) ≡ true
+pub passed_at_name : (limit : Limits) (s : Sort) (p : Prog s) (ts : List Tok) (t : Tok) (us : List Tok) (b : Bool)
+    → Reads limit s p ts (stuck (over locals) (t ∷ us)) → named s p b → b ≡ is_name (word_of ts) → is_name (word_in t) ≡ true
 passed_at_name limit s p ts t us b (r.takes {p = q} {ts = vs} k d) h e = let x = h.1 in passed_at_name limit s q vs t us (is_name (word_of vs)) d (x (is_name (word_of vs))) refl
 passed_at_name limit s p ts t us b (r.passes {n = n} g) h e = sym e ∙ over_plain limit n b g.0 h.0
 passed_at_name limit s p ts t us b (r.looks {f = f} d) h e = passed_at_name limit s (f (word_of ts) (spot_of ts)) ts t us (is_name (word_of ts)) d (h (word_of ts) (spot_of ts)) refl
@@ -243,5 +247,6 @@ passed_at_name limit s p ts t us b (r.thens {f = f} {a = a} {us = vs} d d2) h e 
     passed_at_name limit s (f a) vs t us (is_name (word_of vs)) d2 (h a (is_name (word_of vs))) refl
 passed_at_name limit s p ts t us b (r.stops {q = q} {r = rule} d) h e = passed_at_name limit q (program rule) ts t us (is_name (word_of ts)) d (all_named q rule (is_name (word_of ts))) refl
 
-pub chunk_passed_at_name : (limit : Limits) (ts : List Tok) (t : Tok) (us : List Tok) → Reads limit r.a_block (program r.chunk) ts (stuck (over locals) (t ∷ us)) → is_name (word_in t) ≡ true
+pub chunk_passed_at_name : (limit : Limits) (ts : List Tok) (t : Tok) (us : List Tok)
+    → Reads limit r.a_block (program r.chunk) ts (stuck (over locals) (t ∷ us)) → is_name (word_in t) ≡ true
 chunk_passed_at_name limit ts t us d = passed_at_name limit r.a_block (program r.chunk) ts t us (is_name (word_of ts)) d (all_named r.a_block r.chunk (is_name (word_of ts))) refl

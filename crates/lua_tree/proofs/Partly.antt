@@ -14,14 +14,20 @@ use Rattle.lua_tree.proofs.Runs.{Alike, alike_front, Took, took, Kept, told, res
 -- included.
 pub data Partly : (s : Sort) → Prog s → List Tok → Tok → Needs → Type 0 where
   now : {s : Sort} {n : Needs} {p : Prog s} {t : Tok} → Partly s (take n p) [] t n
-  later : {s : Sort} {n l : Needs} {p : Prog s} {u t : Tok} {pre : List Tok} → Partly s p pre t l → Partly s (take n p) (u ∷ pre) t (both n l)
-  looking : {s : Sort} {l : Needs} {f : Word → Spot → Prog s} {t : Tok} {pre : List Tok} → Partly s (f (word_of (pre ++ t ∷ [])) (spot_of (pre ++ t ∷ []))) pre t l → Partly s (look f) pre t l
+  later : {s : Sort} {n l : Needs} {p : Prog s} {u t : Tok} {pre : List Tok} → Partly s p pre t l
+      → Partly s (take n p) (u ∷ pre) t (both n l)
+  looking : {s : Sort} {l : Needs} {f : Word → Spot → Prog s} {t : Tok} {pre : List Tok}
+      → Partly s (f (word_of (pre ++ t ∷ [])) (spot_of (pre ++ t ∷ []))) pre t l → Partly s (look f) pre t l
   key_now : {s : Sort} {k : Key} {n : Needs} {f : Spot → Prog s} {at : Spot} → Partly s (expect k n f) [] (tok (key k) at) n
-  key_later : {s : Sort} {k : Key} {n l : Needs} {f : Spot → Prog s} {at : Spot} {t : Tok} {pre : List Tok} → Partly s (f at) pre t l → Partly s (expect k n f) (tok (key k) at ∷ pre) t (both n l)
-  name_now : {s : Sort} {n : Needs} {f : Bytes → Spot → Prog s} {x : Bytes} {at : Spot} → Partly s (expect_name n f) [] (tok (w.name x) at) n
-  name_later : {s : Sort} {n l : Needs} {f : Bytes → Spot → Prog s} {x : Bytes} {at : Spot} {t : Tok} {pre : List Tok} → Partly s (f x at) pre t l
+  key_later : {s : Sort} {k : Key} {n l : Needs} {f : Spot → Prog s} {at : Spot} {t : Tok} {pre : List Tok}
+      → Partly s (f at) pre t l → Partly s (expect k n f) (tok (key k) at ∷ pre) t (both n l)
+  name_now : {s : Sort} {n : Needs} {f : Bytes → Spot → Prog s} {x : Bytes} {at : Spot}
+      → Partly s (expect_name n f) [] (tok (w.name x) at) n
+  name_later : {s : Sort} {n l : Needs} {f : Bytes → Spot → Prog s} {x : Bytes} {at : Spot} {t : Tok} {pre : List Tok}
+      → Partly s (f x at) pre t l
       → Partly s (expect_name n f) (tok (w.name x) at ∷ pre) t (both n l)
-  inside : {s q : Sort} {r : Rule q} {f : Value q → Prog s} {t : Tok} {pre : List Tok} {l : Needs} → Partly q (program r) pre t l → Partly s (then r f) pre t l
+  inside : {s q : Sort} {r : Rule q} {f : Value q → Prog s} {t : Tok} {pre : List Tok} {l : Needs} → Partly q (program r) pre t l
+      → Partly s (then r f) pre t l
   behind : {s q : Sort} {r : Rule q} {f : Value q → Prog s} {a : Value q} {t : Tok} (pre post : List Tok) {l m : Needs}
       → Comes q (program r) (pre ++ (post ++ t ∷ [])) a (post ++ t ∷ []) l → Partly s (f a) post t m → Partly s (then r f) (pre ++ post) t (both l m)
 
@@ -55,7 +61,8 @@ empty_split (u ∷ pre) t more h = grind (arith, h)
 abbrev pub Stands : List Tok → List Tok → List Tok → Tok → List Tok → Type 0
 Stands xs ys pre t more = ((m : List Tok) × (xs ≡ pre ++ t ∷ m)) ⊎ ((post : List Tok) × (pre ≡ xs ++ post) × (ys ≡ post ++ t ∷ more))
 
-stands_more : (x : Tok) (xs ys pre : List Tok) (t : Tok) (more : List Tok) → Stands xs ys pre t more → Stands (x ∷ xs) ys (x ∷ pre) t more
+stands_more : (x : Tok) (xs ys pre : List Tok) (t : Tok) (more : List Tok) → Stands xs ys pre t more
+    → Stands (x ∷ xs) ys (x ∷ pre) t more
 stands_more x xs ys pre t more (inl h) = inl (h.0, ap (λ vs. x ∷ vs) h.1)
 stands_more x xs ys pre t more (inr h) = inr (h.0, ap (λ vs. x ∷ vs) h.1, h.2)
 
@@ -97,7 +104,8 @@ taken_on limit s p q n u ts us k first on w =
         let x = w.each pre t more (ap tail_of h) in
         subst (λ v. Taken limit s p (v ∷ pre) t) (ap (head_or u) h) (record { log = both n x.log; partly = on pre t x.log x.partly; keeps = keeps_both limit n x.log k x.keeps })
 
-looked_on : (limit : Limits) (s : Sort) (f : Word → Spot → Prog s) (ts us : List Tok) → Walked limit s (f (word_of ts) (spot_of ts)) ts us → Walked limit s (look f) ts us
+looked_on : (limit : Limits) (s : Sort) (f : Word → Spot → Prog s) (ts us : List Tok)
+    → Walked limit s (f (word_of ts) (spot_of ts)) ts us → Walked limit s (look f) ts us
 looked_on limit s f ts us w = record { taken = w.taken; parts = w.parts; each = λ pre t more h. on_each pre t more h }
   where
     on_each : (pre : List Tok) (t : Tok) (more : List Tok) → w.taken ≡ pre ++ t ∷ more → Taken limit s (look f) pre t
@@ -108,11 +116,13 @@ looked_on limit s f ts us w = record { taken = w.taken; parts = w.parts; each = 
         let same_spot = ap spot_of whole ∙ front_spot pre t (more ++ us) in
         record { log = x.log; partly = looking (subst (λ v. Partly s (f v (spot_of (pre ++ t ∷ []))) pre t x.log) same_word (subst (λ at. Partly s (f (word_of ts) at) pre t x.log) same_spot x.partly)); keeps = x.keeps }
 
-then_inside : (limit : Limits) (s q : Sort) (r : Rule q) (f : Value q → Prog s) (ts us : List Tok) → Walked limit q (program r) ts us → Walked limit s (then r f) ts us
+then_inside : (limit : Limits) (s q : Sort) (r : Rule q) (f : Value q → Prog s) (ts us : List Tok)
+    → Walked limit q (program r) ts us → Walked limit s (then r f) ts us
 then_inside limit s q r f ts us w =
     record { taken = w.taken; parts = w.parts; each = λ pre t more h. let x = w.each pre t more h in record { log = x.log; partly = inside x.partly; keeps = x.keeps } }
 
-then_behind : (limit : Limits) (s q : Sort) (r : Rule q) (f : Value q → Prog s) (a : Value q) (ts us vs : List Tok) → Walked limit q (program r) ts us → Kept limit q (program r) ts us a
+then_behind : (limit : Limits) (s q : Sort) (r : Rule q) (f : Value q → Prog s) (a : Value q) (ts us vs : List Tok)
+    → Walked limit q (program r) ts us → Kept limit q (program r) ts us a
     → Walked limit s (f a) us vs → Walked limit s (then r f) ts vs
 then_behind limit s q r f a ts us vs w k x =
     record { taken = c.pre ++ x.taken; parts = c.parts ∙ (ap (λ ws. c.pre ++ ws) x.parts ∙ sym (append_assoc c.pre x.taken vs)); each = λ pre t more h. on_each pre t more h }
@@ -123,7 +133,8 @@ then_behind limit s q r f a ts us vs w k x =
     first : (pre : List Tok) (t : Tok) (m : List Tok) → c.pre ≡ pre ++ t ∷ m → w.taken ≡ c.pre → Taken limit s (then r f) pre t
     first pre t m h e = let y = w.each pre t m (e ∙ h) in record { log = y.log; partly = inside y.partly; keeps = y.keeps }
 
-    second : (pre : List Tok) (t : Tok) (more post : List Tok) → pre ≡ c.pre ++ post → x.taken ≡ post ++ t ∷ more → Taken limit s (then r f) pre t
+    second : (pre : List Tok) (t : Tok) (more post : List Tok) → pre ≡ c.pre ++ post → x.taken ≡ post ++ t ∷ more
+        → Taken limit s (then r f) pre t
     second pre t more post e h =
         let y = x.each post t more h in
         let whole : us ≡ post ++ t ∷ (more ++ vs) = x.parts ∙ (ap (λ ws. ws ++ vs) h ∙ append_assoc post (t ∷ more) vs) in
@@ -131,19 +142,22 @@ then_behind limit s q r f a ts us vs w k x =
         subst (λ p. Taken limit s (then r f) p t) (sym e)
         (record { log = both k.log y.log; partly = behind c.pre post (c.again (post ++ t ∷ []) like) y.partly; keeps = keeps_both limit k.log y.log k.keeps y.keeps })
 
-    pick : (pre : List Tok) (t : Tok) (more : List Tok) → w.taken ≡ c.pre → Stands c.pre x.taken pre t more → Taken limit s (then r f) pre t
+    pick : (pre : List Tok) (t : Tok) (more : List Tok) → w.taken ≡ c.pre → Stands c.pre x.taken pre t more
+        → Taken limit s (then r f) pre t
     pick pre t more e (inl h) = first pre t h.0 h.1 e
     pick pre t more e (inr h) = second pre t more h.0 h.1 h.2
 
     on_each : (pre : List Tok) (t : Tok) (more : List Tok) → c.pre ++ x.taken ≡ pre ++ t ∷ more → Taken limit s (then r f) pre t
     on_each pre t more h = pick pre t more (append_cancel_right w.taken c.pre us (sym w.parts ∙ c.parts)) (stands c.pre x.taken pre t more h)
 
-key_taken : (s : Sort) (k : Key) (n : Needs) (f : Spot → Prog s) (at : Spot) (pre : List Tok) (t : Tok) (l : Needs) → Partly s (take n (f at)) pre t l
+key_taken : (s : Sort) (k : Key) (n : Needs) (f : Spot → Prog s) (at : Spot) (pre : List Tok) (t : Tok) (l : Needs)
+    → Partly s (take n (f at)) pre t l
     → tok (key k) at ≡ head_or t pre → Partly s (expect k n f) pre t l
 key_taken s k n f at pre t l now h = subst (λ u. Partly s (expect k n f) [] u n) h key_now
 key_taken s k n f at pre t l (later {l = m} {u = u} {pre = post} d) h = subst (λ u. Partly s (expect k n f) (u ∷ post) t (both n m)) h (key_later d)
 
-name_taken : (s : Sort) (n : Needs) (f : Bytes → Spot → Prog s) (x : Bytes) (at : Spot) (pre : List Tok) (t : Tok) (l : Needs) → Partly s (take n (f x at)) pre t l
+name_taken : (s : Sort) (n : Needs) (f : Bytes → Spot → Prog s) (x : Bytes) (at : Spot) (pre : List Tok) (t : Tok) (l : Needs)
+    → Partly s (take n (f x at)) pre t l
     → tok (w.name x) at ≡ head_or t pre → Partly s (expect_name n f) pre t l
 name_taken s n f x at pre t l now h = subst (λ u. Partly s (expect_name n f) [] u n) h name_now
 name_taken s n f x at pre t l (later {l = m} {u = u} {pre = post} d) h = subst (λ u. Partly s (expect_name n f) (u ∷ post) t (both n m)) h (name_later d)
@@ -153,7 +167,8 @@ front_head u [] t more = refl
 front_head u (v ∷ pre) t more = refl
 
 -- another program that takes the same tokens, where it begins with the token that it begins with
-taken_as : (limit : Limits) (s : Sort) (p q : Prog s) (u : Tok) (ts us : List Tok) → ((pre : List Tok) (t : Tok) (l : Needs) → Partly s p pre t l → u ≡ head_or t pre → Partly s q pre t l)
+taken_as : (limit : Limits) (s : Sort) (p q : Prog s) (u : Tok) (ts us : List Tok)
+    → ((pre : List Tok) (t : Tok) (l : Needs) → Partly s p pre t l → u ≡ head_or t pre → Partly s q pre t l)
     → Walked limit s p (u ∷ ts) us → Walked limit s q (u ∷ ts) us
 taken_as limit s p q u ts us on w = record { taken = w.taken; parts = w.parts; each = λ pre t more h. on_each pre t more h }
   where
@@ -163,7 +178,8 @@ taken_as limit s p q u ts us on w = record { taken = w.taken; parts = w.parts; e
         let whole : u ∷ ts ≡ pre ++ t ∷ (more ++ us) = w.parts ∙ (ap (λ vs. vs ++ us) h ∙ append_assoc pre (t ∷ more) us) in
         record { log = x.log; partly = on pre t x.log x.partly (ap (head_or u) whole ∙ front_head u pre t (more ++ us)); keeps = x.keeps }
 
-pub walked : (limit : Limits) (s : Sort) (p : Prog s) (ts : List Tok) (r : Answer (Value s)) → Reads limit s p ts r → Walked limit s p ts (rest_of s r)
+pub walked : (limit : Limits) (s : Sort) (p : Prog s) (ts : List Tok) (r : Answer (Value s)) → Reads limit s p ts r
+    → Walked limit s p ts (rest_of s r)
 walked limit s p ts a r.gives = nothing limit s p ts
 walked limit s p ts a r.fails = nothing limit s p ts
 walked limit s p ts a (r.takes {n = n} {p = q} {t = t} {ts = us} k d) = taken_on limit s p q n t us (rest_of s a) k now (λ pre t l x. later x) (walked limit s q us a d)
@@ -196,7 +212,8 @@ pub record Passed (limit : Limits) (s : Sort) (p : Prog s) (ts : List Tok) (x : 
   pub passes : limit x < log x
   pub lower : (y : Limit) → fault_number y < fault_number x → log y ≤ limit y
 
-passed_on : (limit : Limits) (s : Sort) (p q : Prog s) (n : Needs) (u : Tok) (ts : List Tok) (x : Limit) (us : List Tok) → Keeps limit n
+passed_on : (limit : Limits) (s : Sort) (p q : Prog s) (n : Needs) (u : Tok) (ts : List Tok) (x : Limit) (us : List Tok)
+    → Keeps limit n
     → ((pre : List Tok) (t : Tok) (l : Needs) → Partly s q pre t l → Partly s p (u ∷ pre) t (both n l)) → Passed limit s q ts x us → Passed limit s p (u ∷ ts) x us
 passed_on limit s p q n u ts x us k on w =
     record {
@@ -211,7 +228,8 @@ passed_on limit s p q n u ts x us k on w =
       lower = λ y h. let a = k y in let b = w.lower y h in omega (arith, a, b);
     }
 
-passed_look : (limit : Limits) (s : Sort) (f : Word → Spot → Prog s) (ts : List Tok) (x : Limit) (us : List Tok) → Passed limit s (f (word_of ts) (spot_of ts)) ts x us → Passed limit s (look f) ts x us
+passed_look : (limit : Limits) (s : Sort) (f : Word → Spot → Prog s) (ts : List Tok) (x : Limit) (us : List Tok)
+    → Passed limit s (f (word_of ts) (spot_of ts)) ts x us → Passed limit s (look f) ts x us
 passed_look limit s f ts x us w =
     let whole : ts ≡ w.taken ++ w.token ∷ w.rest = w.parts ∙ ap (λ vs. w.taken ++ vs) w.stops_at in
     let same_word = ap word_of whole ∙ front_word w.taken w.token w.rest in
@@ -229,7 +247,8 @@ passed_look limit s f ts x us w =
       lower = w.lower;
     }
 
-passed_as : (limit : Limits) (s : Sort) (p q : Prog s) (u : Tok) (ts : List Tok) (x : Limit) (us : List Tok) → ((pre : List Tok) (t : Tok) (l : Needs) → Partly s p pre t l → u ≡ head_or t pre → Partly s q pre t l)
+passed_as : (limit : Limits) (s : Sort) (p q : Prog s) (u : Tok) (ts : List Tok) (x : Limit) (us : List Tok)
+    → ((pre : List Tok) (t : Tok) (l : Needs) → Partly s p pre t l → u ≡ head_or t pre → Partly s q pre t l)
     → Passed limit s p (u ∷ ts) x us → Passed limit s q (u ∷ ts) x us
 passed_as limit s p q u ts x us on w =
     let whole : u ∷ ts ≡ w.taken ++ w.token ∷ w.rest = w.parts ∙ ap (λ vs. w.taken ++ vs) w.stops_at in
@@ -245,11 +264,13 @@ passed_as limit s p q u ts x us on w =
       lower = w.lower;
     }
 
-passed_inside : (limit : Limits) (s q : Sort) (r : Rule q) (f : Value q → Prog s) (ts : List Tok) (x : Limit) (us : List Tok) → Passed limit q (program r) ts x us → Passed limit s (then r f) ts x us
+passed_inside : (limit : Limits) (s q : Sort) (r : Rule q) (f : Value q → Prog s) (ts : List Tok) (x : Limit) (us : List Tok)
+    → Passed limit q (program r) ts x us → Passed limit s (then r f) ts x us
 passed_inside limit s q r f ts x us w =
     record { taken = w.taken; token = w.token; rest = w.rest; log = w.log; parts = w.parts; stops_at = w.stops_at; partly = inside w.partly; passes = w.passes; lower = w.lower }
 
-passed_behind : (limit : Limits) (s q : Sort) (r : Rule q) (f : Value q → Prog s) (a : Value q) (ts us : List Tok) (x : Limit) (vs : List Tok) → Kept limit q (program r) ts us a
+passed_behind : (limit : Limits) (s q : Sort) (r : Rule q) (f : Value q → Prog s) (a : Value q) (ts us : List Tok) (x : Limit) (vs : List Tok)
+    → Kept limit q (program r) ts us a
     → Passed limit s (f a) us x vs → Passed limit s (then r f) ts x vs
 passed_behind limit s q r f a ts us x vs k w =
     let c = took q (program r) ts us a k.log k.comes in
@@ -267,7 +288,8 @@ passed_behind limit s q r f a ts us x vs k w =
       lower = λ y h. let m = k.keeps y in let b = w.lower y h in omega (arith, m, b);
     }
 
-pub passed : (limit : Limits) (s : Sort) (p : Prog s) (ts : List Tok) (x : Limit) (us : List Tok) → Reads limit s p ts (stuck (over x) us) → Passed limit s p ts x us
+pub passed : (limit : Limits) (s : Sort) (p : Prog s) (ts : List Tok) (x : Limit) (us : List Tok)
+    → Reads limit s p ts (stuck (over x) us) → Passed limit s p ts x us
 passed limit s p ts x us (r.takes {n = n} {p = q} {t = t} {ts = vs} k d) = passed_on limit s p q n t vs x us k (λ pre t l y. later y) (passed limit s q vs x us d)
 passed limit s p ts x us (r.passes {n = n} {t = t} {ts = vs} h) =
     record { taken = []; token = t; rest = vs; log = n; parts = refl; stops_at = refl; partly = now; passes = h.0; lower = h.1 }

@@ -55,7 +55,8 @@ abbrev name_in : Word → Bytes
 name_in (w.name x) = x
 name_in v = []
 
-pub one : (s : Sort) (p : Prog s) (ts us : List Tok) (a : Value s) (l : Needs) (o : Out s) → Comes s p ts a us l → Outs s p ts o → out s a us l ≡ o
+pub one : (s : Sort) (p : Prog s) (ts us : List Tok) (a : Value s) (l : Needs) (o : Out s) → Comes s p ts a us l → Outs s p ts o
+    → out s a us l ≡ o
 one s p ts us a l o c.gives e = did s p ts o.rest o.value o.log e
 one s p ts us a l o (c.takes {n = n} {l = l2} {p = p2} {ts = ts2} d) e =
     let x = did s p ts o.rest o.value o.log e in
@@ -112,7 +113,8 @@ pub record Took (s : Sort) (p : Prog s) (ts us : List Tok) (a : Value s) (l : Ne
   pub parts : ts ≡ pre ++ us
   pub again : (vs : List Tok) → Alike us vs → Comes s p (pre ++ vs) a vs l
 
-looks_alike : (s : Sort) (f : Word → Spot → Prog s) (ts vs ws : List Tok) (a : Value s) (l : Needs) → Alike ts vs → Comes s (f (word_of ts) (spot_of ts)) vs a ws l → Comes s (look f) vs a ws l
+looks_alike : (s : Sort) (f : Word → Spot → Prog s) (ts vs ws : List Tok) (a : Value s) (l : Needs) → Alike ts vs
+    → Comes s (f (word_of ts) (spot_of ts)) vs a ws l → Comes s (look f) vs a ws l
 looks_alike s f ts vs ws a l h d =
     c.looks (subst (λ v. Comes s (f v (spot_of vs)) vs a ws l) (alike_word ts vs h) (subst (λ at. Comes s (f (word_of ts) at) vs a ws l) (alike_spot ts vs h) d))
 
@@ -176,7 +178,8 @@ left_in n l m e y = subst (λ m. n y ≤ m y) e (omega arith)
 right_in : (n l m : Needs) → both n l ≡ m → (y : Limit) → l y ≤ m y
 right_in n l m e y = subst (λ m. l y ≤ m y) e (omega arith)
 
-told_take : (limit : Limits) (s : Sort) (n : Needs) (p : Prog s) (t : Tok) (ts : List Tok) (r : Answer (Value s)) → Keeps limit n → Told limit s p ts r → Told limit s (take n p) (t ∷ ts) r
+told_take : (limit : Limits) (s : Sort) (n : Needs) (p : Prog s) (t : Tok) (ts : List Tok) (r : Answer (Value s)) → Keeps limit n
+    → Told limit s p ts r → Told limit s (take n p) (t ∷ ts) r
 told_take limit s n p t ts (got a us) k x = record { log = both n x.log; comes = c.takes x.comes; keeps = keeps_both limit n x.log k x.keeps }
 told_take limit s n p t ts (stuck x us) k h = (
   t ∷ h.0,
@@ -186,15 +189,18 @@ told_take limit s n p t ts (stuck x us) k h = (
       blames_more limit x y.0 o.log (right_in n y.0 o.log y.2) (h.2 vs i (out s o.value o.rest y.0) y.1),
 )
 
-told_passes : (limit : Limits) (s : Sort) (n : Needs) (p : Prog s) (x : Limit) (t : Tok) (ts vs : List Tok) (o : Out s) → limit x < n x → Alike (t ∷ ts) vs → Outs s (take n p) vs o → limit x < o.log x
+told_passes : (limit : Limits) (s : Sort) (n : Needs) (p : Prog s) (x : Limit) (t : Tok) (ts vs : List Tok) (o : Out s)
+    → limit x < n x → Alike (t ∷ ts) vs → Outs s (take n p) vs o → limit x < o.log x
 told_passes limit s n p x t ts [] o h i e = absurd i
 told_passes limit s n p x t ts (u ∷ vs) o h i e = let y = did s (take n p) (u ∷ vs) o.rest o.value o.log e in let z = left_in n y.0 o.log y.2 x in omega (arith, h, z)
 
-told_none : (limit : Limits) (s : Sort) (n : Needs) (p : Prog s) (vs : List Tok) (o : Out s) → Alike [] vs → Outs s (take n p) vs o → ⊥
+told_none : (limit : Limits) (s : Sort) (n : Needs) (p : Prog s) (vs : List Tok) (o : Out s) → Alike [] vs
+    → Outs s (take n p) vs o → ⊥
 told_none limit s n p [] o i e = did s (take n p) [] o.rest o.value o.log e
 told_none limit s n p (u ∷ vs) o i e = i
 
-told_look : (limit : Limits) (s : Sort) (f : Word → Spot → Prog s) (ts : List Tok) (r : Answer (Value s)) → Told limit s (f (word_of ts) (spot_of ts)) ts r → Told limit s (look f) ts r
+told_look : (limit : Limits) (s : Sort) (f : Word → Spot → Prog s) (ts : List Tok) (r : Answer (Value s))
+    → Told limit s (f (word_of ts) (spot_of ts)) ts r → Told limit s (look f) ts r
 told_look limit s f ts (got a us) x = record { log = x.log; comes = c.looks x.comes; keeps = x.keeps }
 told_look limit s f ts (stuck x us) h = (
   h.0,
@@ -206,13 +212,15 @@ told_look limit s f ts (stuck x us) h = (
 )
 
 -- a token that had to stand there, taken
-taken_key : (s : Sort) (k : Key) (n : Needs) (f : Spot → Prog s) (at : Spot) (ts : List Tok) (o : Out s) → at ≡ spot_of ts → Outs s (expect k n f) ts o → Outs s (take n (f at)) ts o
+taken_key : (s : Sort) (k : Key) (n : Needs) (f : Spot → Prog s) (at : Spot) (ts : List Tok) (o : Out s) → at ≡ spot_of ts
+    → Outs s (expect k n f) ts o → Outs s (take n (f at)) ts o
 taken_key s k n f at ts o i e =
     let y = did s (expect k n f) ts o.rest o.value o.log e in
     let j : at ≡ y.0 = i ∙ ap spot_of y.3 in
     subst (λ ts. Outs s (take n (f at)) ts o) (sym y.3) (subst (λ l. Comes s (take n (f at)) (tok (key k) y.0 ∷ y.1) o.value o.rest l) y.5 (c.takes (subst (λ at. Comes s (f at) y.1 o.value o.rest y.2) (sym j) y.4)))
 
-told_key : (limit : Limits) (s : Sort) (k : Key) (n : Needs) (f : Spot → Prog s) (at : Spot) (ts : List Tok) (r : Answer (Value s)) → Told limit s (take n (f at)) (tok (key k) at ∷ ts) r → Told limit s (expect k n f) (tok (key k) at ∷ ts) r
+told_key : (limit : Limits) (s : Sort) (k : Key) (n : Needs) (f : Spot → Prog s) (at : Spot) (ts : List Tok) (r : Answer (Value s))
+    → Told limit s (take n (f at)) (tok (key k) at ∷ ts) r → Told limit s (expect k n f) (tok (key k) at ∷ ts) r
 told_key limit s k n f at ts (got a us) x =
     let y = did s (take n (f at)) (tok (key k) at ∷ ts) us a x.log x.comes in
     record { log = x.log; comes = subst (λ l. Comes s (expect k n f) (tok (key k) at ∷ ts) a us l) y.2 (c.expects y.1); keeps = x.keeps }
@@ -224,10 +232,12 @@ told_key limit s k n f at ts (stuck x us) h = (
       h.2 vs i o (taken_key s k n f at (h.0 ++ vs) o (alike_spot (tok (key k) at ∷ ts) (h.0 ++ vs) like) e),
 )
 
-told_not_that : (limit : Limits) (s : Sort) (k : Key) (n : Needs) (f : Spot → Prog s) (ts vs : List Tok) (o : Out s) → (word_of ts ≡ key k → ⊥) → Alike ts vs → Outs s (expect k n f) vs o → ⊥
+told_not_that : (limit : Limits) (s : Sort) (k : Key) (n : Needs) (f : Spot → Prog s) (ts vs : List Tok) (o : Out s)
+    → (word_of ts ≡ key k → ⊥) → Alike ts vs → Outs s (expect k n f) vs o → ⊥
 told_not_that limit s k n f ts vs o h i e = let y = did s (expect k n f) vs o.rest o.value o.log e in h (alike_word ts vs i ∙ ap word_of y.3)
 
-taken_name : (s : Sort) (n : Needs) (f : Bytes → Spot → Prog s) (x : Bytes) (at : Spot) (ts : List Tok) (o : Out s) → w.name x ≡ word_of ts → at ≡ spot_of ts → Outs s (expect_name n f) ts o → Outs s (take n (f x at)) ts o
+taken_name : (s : Sort) (n : Needs) (f : Bytes → Spot → Prog s) (x : Bytes) (at : Spot) (ts : List Tok) (o : Out s)
+    → w.name x ≡ word_of ts → at ≡ spot_of ts → Outs s (expect_name n f) ts o → Outs s (take n (f x at)) ts o
 taken_name s n f x at ts o g i e =
     let y = did s (expect_name n f) ts o.rest o.value o.log e in
     let j : at ≡ y.1 = i ∙ ap spot_of y.4 in
@@ -235,7 +245,8 @@ taken_name s n f x at ts o g i e =
     subst (λ ts. Outs s (take n (f x at)) ts o) (sym y.4)
     (subst (λ l. Comes s (take n (f x at)) (tok (w.name y.0) y.1 ∷ y.2) o.value o.rest l) y.6 (c.takes (subst (λ x. Comes s (f x at) y.2 o.value o.rest y.3) (sym m) (subst (λ at. Comes s (f y.0 at) y.2 o.value o.rest y.3) (sym j) y.5))))
 
-told_name : (limit : Limits) (s : Sort) (n : Needs) (f : Bytes → Spot → Prog s) (z : Bytes) (at : Spot) (ts : List Tok) (r : Answer (Value s)) → Told limit s (take n (f z at)) (tok (w.name z) at ∷ ts) r → Told limit s (expect_name n f) (tok (w.name z) at ∷ ts) r
+told_name : (limit : Limits) (s : Sort) (n : Needs) (f : Bytes → Spot → Prog s) (z : Bytes) (at : Spot) (ts : List Tok) (r : Answer (Value s))
+    → Told limit s (take n (f z at)) (tok (w.name z) at ∷ ts) r → Told limit s (expect_name n f) (tok (w.name z) at ∷ ts) r
 told_name limit s n f z at ts (got a us) x =
     let y = did s (take n (f z at)) (tok (w.name z) at ∷ ts) us a x.log x.comes in
     record { log = x.log; comes = subst (λ l. Comes s (expect_name n f) (tok (w.name z) at ∷ ts) a us l) y.2 (c.expects_name y.1); keeps = x.keeps }
@@ -247,13 +258,16 @@ told_name limit s n f z at ts (stuck x us) h = (
       h.2 vs i o (taken_name s n f z at (h.0 ++ vs) o (alike_word (tok (w.name z) at ∷ ts) (h.0 ++ vs) like) (alike_spot (tok (w.name z) at ∷ ts) (h.0 ++ vs) like) e),
 )
 
-told_no_name : (limit : Limits) (s : Sort) (n : Needs) (f : Bytes → Spot → Prog s) (ts vs : List Tok) (o : Out s) → ((x : Bytes) → word_of ts ≡ w.name x → ⊥) → Alike ts vs → Outs s (expect_name n f) vs o → ⊥
+told_no_name : (limit : Limits) (s : Sort) (n : Needs) (f : Bytes → Spot → Prog s) (ts vs : List Tok) (o : Out s)
+    → ((x : Bytes) → word_of ts ≡ w.name x → ⊥) → Alike ts vs → Outs s (expect_name n f) vs o → ⊥
 told_no_name limit s n f ts vs o h i e = let y = did s (expect_name n f) vs o.rest o.value o.log e in h y.0 (alike_word ts vs i ∙ ap word_of y.4)
 
-told_not_last : (s : Sort) (a : Value s) (t : Tok) (ts vs : List Tok) (o : Out s) → Alike (t ∷ ts) vs → Outs s (at_last a) vs o → ⊥
+told_not_last : (s : Sort) (a : Value s) (t : Tok) (ts vs : List Tok) (o : Out s) → Alike (t ∷ ts) vs → Outs s (at_last a) vs o
+    → ⊥
 told_not_last s a t ts vs o i e = let y = did s (at_last a) vs o.rest o.value o.log e in subst (λ vs. Alike (t ∷ ts) vs) y.0 i
 
-told_then : (limit : Limits) (s q : Sort) (r : Rule q) (f : Value q → Prog s) (a : Value q) (ts us : List Tok) (b : Answer (Value s)) → Kept limit q (program r) ts us a → Told limit s (f a) us b → Told limit s (then r f) ts b
+told_then : (limit : Limits) (s q : Sort) (r : Rule q) (f : Value q → Prog s) (a : Value q) (ts us : List Tok) (b : Answer (Value s))
+    → Kept limit q (program r) ts us a → Told limit s (f a) us b → Told limit s (then r f) ts b
 told_then limit s q r f a ts us (got b vs) x y = record { log = both x.log y.log; comes = c.thens x.comes y.comes; keeps = keeps_both limit x.log y.log x.keeps y.keeps }
 told_then limit s q r f a ts us (stuck z vs) x h =
     let t = took q (program r) ts us a x.log x.comes in (
@@ -268,7 +282,8 @@ told_then limit s q r f a ts us (stuck z vs) x h =
           blames_more limit z y.3 o.log (right_in y.2 y.3 o.log y.6) (h.2 ws i (out s o.value o.rest y.3) e2),
     )
 
-told_stop : (limit : Limits) (s q : Sort) (r : Rule q) (f : Value q → Prog s) (x : Fault) (ts us : List Tok) → Told limit q (program r) ts (stuck x us) → Told limit s (then r f) ts (stuck x us)
+told_stop : (limit : Limits) (s q : Sort) (r : Rule q) (f : Value q → Prog s) (x : Fault) (ts us : List Tok)
+    → Told limit q (program r) ts (stuck x us) → Told limit s (then r f) ts (stuck x us)
 told_stop limit s q r f x ts us h = (
   h.0,
   h.1,
@@ -277,7 +292,8 @@ told_stop limit s q r f x ts us h = (
       blames_more limit x y.2 o.log (left_in y.2 y.3 o.log y.6) (h.2 vs i (out q y.0 y.1 y.2) y.4),
 )
 
-pub told : (limit : Limits) (s : Sort) (p : Prog s) (ts : List Tok) (r : Answer (Value s)) → Reads limit s p ts r → Told limit s p ts r
+pub told : (limit : Limits) (s : Sort) (p : Prog s) (ts : List Tok) (r : Answer (Value s)) → Reads limit s p ts r
+    → Told limit s p ts r
 told limit s p ts r gives = record { log = free; comes = c.gives; keeps = λ x. omega arith }
 told limit s p ts r fails = ([], refl, λ vs h o e. did s fail vs o.rest o.value o.log e)
 told limit s p ts r (takes {n = n} {p = p2} {t = t} {ts = ts2} k d) = told_take limit s n p2 t ts2 r k (told limit s p2 ts2 r d)

@@ -48,5 +48,6 @@ all_sound q (r.more_arms c) ts = s.s_more_arms c ts
 all_sound q (r.func_name c a) ts = s.s_func_name c a ts
 
 -- of each rule
-pub sound : (q : Sort) (r : Rule q) (ts us : List Tok) (a : Value q) (l : Needs) → Comes q (program r) ts a us l → Post q r ts a us l
+pub sound : (q : Sort) (r : Rule q) (ts us : List Tok) (a : Value q) (l : Needs) → Comes q (program r) ts a us l
+    → Post q r ts a us l
 sound q r ts us a l d = holds all_sound q (program r) ts us a l (Post q r ts) d (all_sound q r ts)

@@ -73,10 +73,12 @@ in_expr_held x a_paren c e = refl
 pub s_expr : (p : ℕ) (c : Counts) (ts : List Tok) → wp an_expr (program (r.expr p c)) ts (Post an_expr (r.expr p c) ts)
 s_expr p c ts = λ a us l h e vs m k q. (k.0 ts (h.0 p q) h.1, k.1, λ x. let y = h.2 x in let z = k.2 x in omega (arith, y, z))
 
-picked : (p n : ℕ) (A B : Prog an_expr) (ts : List Tok) (P : Expr → List Tok → Needs → Type 0) → (p ≤ n → wp an_expr A ts P) → (n < p → wp an_expr B ts P) → wp an_expr (cond (leb p n) A B) ts P
+picked : (p n : ℕ) (A B : Prog an_expr) (ts : List Tok) (P : Expr → List Tok → Needs → Type 0) → (p ≤ n → wp an_expr A ts P)
+    → (n < p → wp an_expr B ts P) → wp an_expr (cond (leb p n) A B) ts P
 picked p n A B ts P f g = pick p n A B ts P f g (leb p n) refl
   where
-    pick : (p n : ℕ) (A B : Prog an_expr) (ts : List Tok) (P : Expr → List Tok → Needs → Type 0) → (p ≤ n → wp an_expr A ts P) → (n < p → wp an_expr B ts P) → (b : Bool) → leb p n ≡ b → wp an_expr (cond b A B) ts P
+    pick : (p n : ℕ) (A B : Prog an_expr) (ts : List Tok) (P : Expr → List Tok → Needs → Type 0) → (p ≤ n → wp an_expr A ts P)
+        → (n < p → wp an_expr B ts P) → (b : Bool) → leb p n ≡ b → wp an_expr (cond b A B) ts P
     pick p n A B ts P f g true e = f (leb→le p n (subst T (sym e) tt))
     pick p n A B ts P f g false e = g (less_of p n e)
       where
@@ -92,7 +94,8 @@ binary_more p c a o at ts le = λ b us l h e vs m k.
       λ x. let y = pushed x c a in let z = g.2 x in let v = k.2 x in let u = node_below x (c x) a in omega (arith, y, z, v, u),
     )
 
-pub s_more : (p : ℕ) (c : Counts) (a : Expr) (ts : List Tok) → wp an_expr (program (r.more p c a)) ts (Post an_expr (r.more p c a) ts)
+pub s_more : (p : ℕ) (c : Counts) (a : Expr) (ts : List Tok)
+    → wp an_expr (program (r.more p c a)) ts (Post an_expr (r.more p c a) ts)
 s_more p c a (tok (w.op o) at ∷ ts) =
     picked p (level o) (take (deep (suc (c nodes) + height a)) (then (r.expr (right_level o) (down c)) (λ b. then (r.more p c (binary at.line o a b)) give))) (give a) (tok (w.op o) at ∷ ts) (Post an_expr (r.more p c a) (tok (w.op o) at ∷ ts))
     (binary_more p c a o at ts) (λ lt. (λ ts0 e f. e, lt, λ x. omega arith))
@@ -148,7 +151,8 @@ regroup a d r e m h = omega (arith, h)
 summed : (w e m n at u : ℕ) → w ≡ max at u → n ≤ u → max w (max e m) ≡ max (max (max n at) (max u e)) m
 summed w e m n at u h i = omega (arith, h, i)
 
-call_sum : (a d r e m n at u l t : ℕ) → d ≤ r → max a r ≡ max at u → l ≡ max r e → n ≤ u → max (max (max n at) (max u e)) m ≡ t → max a (max d (max l m)) ≡ t
+call_sum : (a d r e m n at u l t : ℕ) → d ≤ r → max a r ≡ max at u → l ≡ max r e → n ≤ u → max (max (max n at) (max u e)) m ≡ t
+    → max a (max d (max l m)) ≡ t
 call_sum a d r e m n at u l t h i j k g = ap (λ l. max a (max d (max l m))) j ∙ (regroup a d r e m h ∙ (summed (max a r) e m n at u i k ∙ g))
 
 s_called : (k : Place) (c : Counts) (a : Expr) (ts : List Tok) → wp an_expr (called k c a) ts (Post an_expr (r.suffixes k c a) ts)
@@ -162,7 +166,8 @@ s_called k c a ts = λ v us l h e vs m g.
           (omega arith) (opened x (unfinished k (shape a)) (unfinished k a_call) c a v.0) (i x) (node_below x (u x) a) (g.2 x) in omega (arith, s),
     )
 
-pub s_suffixes : (k : Place) (c : Counts) (a : Expr) (ts : List Tok) → wp an_expr (program (r.suffixes k c a)) ts (Post an_expr (r.suffixes k c a) ts)
+pub s_suffixes : (k : Place) (c : Counts) (a : Expr) (ts : List Tok)
+    → wp an_expr (program (r.suffixes k c a)) ts (Post an_expr (r.suffixes k c a) ts)
 s_suffixes k c a [] = (λ ts0 e. e, tt, λ x. omega arith)
 s_suffixes k c a (tok (key w.open_bracket) at ∷ ts) = λ e us l h at2 vs q f ws m g.
     let i = h (omega arith) in (
@@ -199,10 +204,12 @@ s_args n c (tok (key w.open_brace) at ∷ ts) = λ fs us l h. (table_args h.1, �
 s_args n c (tok (w.str b) at ∷ ts) = (str_args, λ le x. let z = node_opening x c n at.line le in omega (arith, z))
 s_args n c (tok v at ∷ ts) = tt
 
-from_list : (line : ℕ) (c : Counts) (ts : List Tok) → wp an_args (then (r.exprs c) (λ es. r.expect w.close_paren r.free (λ s. give (line, es)))) ts (Post an_args (r.paren_args line c) ts)
+from_list : (line : ℕ) (c : Counts) (ts : List Tok)
+    → wp an_args (then (r.exprs c) (λ es. r.expect w.close_paren r.free (λ s. give (line, es)))) ts (Post an_args (r.paren_args line c) ts)
 from_list line c ts = λ es us l h at2 vs q. (refl, λ at e. list_args (subst (ExpList es ts) q h.0), λ x. let y = h.1 x in omega (arith, y))
 
-pub s_paren_args : (line : ℕ) (c : Counts) (ts : List Tok) → wp an_args (program (r.paren_args line c)) ts (Post an_args (r.paren_args line c) ts)
+pub s_paren_args : (line : ℕ) (c : Counts) (ts : List Tok)
+    → wp an_args (program (r.paren_args line c)) ts (Post an_args (r.paren_args line c) ts)
 s_paren_args line c [] = from_list line c []
 s_paren_args line c (tok (key w.close_paren) at ∷ ts) = (refl, λ at2 e. no_args, λ x. omega arith)
 s_paren_args line c (tok v at ∷ ts) = from_list line c (tok v at ∷ ts)
@@ -212,14 +219,16 @@ s_paren_args line c (tok v at ∷ ts) = from_list line c (tok v at ∷ ts)
 pub s_exprs : (c : Counts) (ts : List Tok) → wp some_exprs (program (r.exprs c)) ts (Post some_exprs (r.exprs c) ts)
 s_exprs c ts = λ e us l h es vs m k. let g = h (omega arith) in (k.0 e ts g.0, λ x. let y = g.2 x in let z = k.1 x in omega (arith, y, z))
 
-pub s_more_exprs : (c : Counts) (ts : List Tok) → wp some_exprs (program (r.more_exprs c)) ts (Post some_exprs (r.more_exprs c) ts)
+pub s_more_exprs : (c : Counts) (ts : List Tok)
+    → wp some_exprs (program (r.more_exprs c)) ts (Post some_exprs (r.more_exprs c) ts)
 s_more_exprs c [] = (λ e ts0 d. one_exp d, λ x. omega arith)
 s_more_exprs c (tok (key w.comma) at ∷ ts) = λ es us l h. (λ e ts0 d. exp_and d h.0, λ x. let y = h.1 x in omega (arith, y))
 s_more_exprs c (tok v at ∷ ts) = (λ e ts0 d. one_exp d, λ x. omega arith)
 
 -- ---- fields
 
-from_item : (c : Counts) (ts : List Tok) → wp some_fields (then (r.expr 0 c) (λ e. then (r.more_fields c) (λ fs. give (item_and e fs)))) ts (Post some_fields (r.fields c) ts)
+from_item : (c : Counts) (ts : List Tok)
+    → wp some_fields (then (r.expr 0 c) (λ e. then (r.more_fields c) (λ fs. give (item_and e fs)))) ts (Post some_fields (r.fields c) ts)
 from_item c ts = λ e us l h fs vs m k. let g = h (omega arith) in (k.0, item_field g.0 k.1, λ x. let y = g.2 x in let z = k.2 x in omega (arith, y, z))
 
 pub s_fields : (c : Counts) (ts : List Tok) → wp some_fields (program (r.fields c)) ts (Post some_fields (r.fields c) ts)
@@ -235,7 +244,8 @@ s_fields c (tok (key w.open_bracket) at ∷ ts) = λ k us l h at2 vs q at3 ws q2
 s_fields c (tok (w.name b) at ∷ ts) = λ fs us l h. (h.0, h.1 at refl, λ x. let y = h.2 x in let u = one_deep x c in omega (arith, y, u))
 s_fields c (tok v at ∷ ts) = from_item c (tok v at ∷ ts)
 
-pub s_more_fields : (c : Counts) (ts : List Tok) → wp some_fields (program (r.more_fields c)) ts (Post some_fields (r.more_fields c) ts)
+pub s_more_fields : (c : Counts) (ts : List Tok)
+    → wp some_fields (program (r.more_fields c)) ts (Post some_fields (r.more_fields c) ts)
 s_more_fields c [] = tt
 s_more_fields c (tok (key w.comma) at ∷ ts) = λ fs us l h. (h.0, separated tt h.1, λ x. let y = h.2 x in omega (arith, y))
 s_more_fields c (tok (key w.semicolon) at ∷ ts) = λ fs us l h. (h.0, separated tt h.1, λ x. let y = h.2 x in omega (arith, y))
@@ -253,7 +263,8 @@ from_name line b c ts = λ a us l h e vs m k fs ws n i. (
   λ x. let y = h.2 x in let z = in_expr_held x (shape a) c a in let u = k.2 x in let v = i.2 x in omega (arith, y, z, u, v),
 )
 
-pub s_name_field : (line : ℕ) (b : Bytes) (c : Counts) (ts : List Tok) → wp some_fields (program (r.name_field line b c)) ts (Post some_fields (r.name_field line b c) ts)
+pub s_name_field : (line : ℕ) (b : Bytes) (c : Counts) (ts : List Tok)
+    → wp some_fields (program (r.name_field line b c)) ts (Post some_fields (r.name_field line b c) ts)
 s_name_field line b c [] = from_name line b c []
 s_name_field line b c (tok (key w.assign) at ∷ ts) = λ e us l h fs vs m k.
     let g = h (omega arith) in (

@@ -21,7 +21,8 @@ s_params n [] = λ v us l h. (h.0, λ x. let y = h.2 x in omega (arith, y))
 s_params n (tok (key w.close_paren) at ∷ ts) = (no_params, λ x. let y = end_at x (n + 0) n (omega arith) in omega (arith, y))
 s_params n (tok v at ∷ ts) = λ v us l h. (h.0, λ x. let y = h.2 x in omega (arith, y))
 
-step_names : (x : Limit) (n k : ℕ) (l m : ℕ) → max (at_end x (suc n)) l ≡ at_end x (suc n + k) → max (at_end x n) (max (many (suc n) x) l) ≡ at_end x (n + suc k)
+step_names : (x : Limit) (n k : ℕ) (l m : ℕ) → max (at_end x (suc n)) l ≡ at_end x (suc n + k)
+    → max (at_end x n) (max (many (suc n) x) l) ≡ at_end x (n + suc k)
 step_names x n k l m h = let y = many_is x (suc n) in let z = end_up x n (suc n) (omega arith) in let v = end_at x (suc n + k) (n + suc k) (omega arith) in omega (arith, h, y, z, v)
 
 pub s_next_param : (n : ℕ) (ts : List Tok) → wp some_params (program (r.next_param n)) ts (Post some_params (r.next_param n) ts)
@@ -34,12 +35,15 @@ s_next_param n (tok (key w.dots) at ∷ ts) = λ at2 us q. (
 s_next_param n (tok (w.name b) at ∷ ts) = λ v us l h.
     (h.0 b at, λ b2 at3 at4. name_before b b2 v.0 v.1 at at3 at4 ts us (h.0 b at), λ x. let y = step_names x n (length v.0) (l x) 0 (h.1 x) in omega (arith, y))
   where
-    name_before : (b b2 : Bytes) (xs : List Bytes) (d : Bool) (at at3 at4 : Spot) (ts us : List Tok) → Params (b ∷ xs) d (tok (w.name b) at ∷ ts) us → Params (b2 ∷ b ∷ xs) d (tok (w.name b2) at3 ∷ tok (key w.comma) at4 ∷ tok (w.name b) at ∷ ts) us
+    name_before : (b b2 : Bytes) (xs : List Bytes) (d : Bool) (at at3 at4 : Spot) (ts us : List Tok)
+        → Params (b ∷ xs) d (tok (w.name b) at ∷ ts) us
+        → Params (b2 ∷ b ∷ xs) d (tok (w.name b2) at3 ∷ tok (key w.comma) at4 ∷ tok (w.name b) at ∷ ts) us
     name_before b b2 xs d at at3 at4 ts us (only_names h) = only_names (name_and h)
     name_before b b2 xs d at at3 at4 ts us (names_dots h) = names_dots (name_and h)
 s_next_param n (tok v at ∷ ts) = tt
 
-pub s_more_params : (n : ℕ) (ts : List Tok) → wp some_params (program (r.more_params n)) ts (Post some_params (r.more_params n) ts)
+pub s_more_params : (n : ℕ) (ts : List Tok)
+    → wp some_params (program (r.more_params n)) ts (Post some_params (r.more_params n) ts)
 s_more_params n [] = tt
 s_more_params n (tok (key w.comma) at ∷ ts) = λ v us l h. (λ b at2. h.1 b at2 at, λ x. let y = h.2 x in omega (arith, y))
 s_more_params n (tok (key w.close_paren) at ∷ ts) = (λ b at2. only_names one_name, λ x. let y = end_at x (n + 0) n (omega arith) in omega (arith, y))
@@ -53,7 +57,8 @@ s_more_names n (tok (key w.comma) at ∷ ts) = λ b at2 us q xs vs l h. (
 )
 s_more_names n (tok v at ∷ ts) = (λ b at. one_name, λ x. let y = end_at x (n + 0) n (omega arith) in omega (arith, y))
 
-pub s_func_name : (c : Counts) (a : Expr) (ts : List Tok) → wp a_target (program (r.func_name c a)) ts (Post a_target (r.func_name c a) ts)
+pub s_func_name : (c : Counts) (a : Expr) (ts : List Tok)
+    → wp a_target (program (r.func_name c a)) ts (Post a_target (r.func_name c a) ts)
 s_func_name c a [] = (λ ts0 h. plain_name h, λ x. let y = end_none x in omega (arith, y))
 s_func_name c a (tok (key w.dot) at ∷ ts) = λ b at2 us q v vs l h. (
   λ ts0 p. h.0 ts0 (dot_path (subst (λ ts. NamePath a ts0 (tok (key w.dot) at ∷ ts)) q p)),
@@ -67,7 +72,8 @@ s_func_name c a (tok v at ∷ ts) = (λ ts0 h. plain_name h, λ x. let y = end_n
 
 -- ---- function bodies
 
-pub s_func_body : (line : ℕ) (hidden : List Bytes) (c : Counts) (ts : List Tok) → wp a_func (program (r.func_body line hidden c)) ts (Post a_func (r.func_body line hidden c) ts)
+pub s_func_body : (line : ℕ) (hidden : List Bytes) (c : Counts) (ts : List Tok)
+    → wp a_func (program (r.func_body line hidden c)) ts (Post a_func (r.func_body line hidden c) ts)
 s_func_body line hidden c ts = λ at us q v vs l h b ws m g at2 xs q2. (
   subst (λ ts. Body line hidden (func line (hidden ++ v.0) v.1 b) ts xs) (sym q) (body h.0 (subst (Stats b vs) q2 g.0)),
   λ x.
@@ -115,7 +121,8 @@ s_block c (tok (w.name b) at ∷ ts) = from_stat c (tok (w.name b) at ∷ ts)
 s_block c (tok (key w.open_paren) at ∷ ts) = from_stat c (tok (key w.open_paren) at ∷ ts)
 s_block c (tok v at ∷ ts) = nothing c (tok v at ∷ ts)
 
-pub s_loop_block : (k : ℕ) (c : Counts) (ts : List Tok) → wp a_block (program (r.loop_block k c)) ts (Post a_block (r.loop_block k c) ts)
+pub s_loop_block : (k : ℕ) (c : Counts) (ts : List Tok)
+    → wp a_block (program (r.loop_block k c)) ts (Post a_block (r.loop_block k c) ts)
 s_loop_block k c ts = λ at us q b vs l h at2 ws q2. (at, us, at2, q, subst (Stats b us) q2 h.0, λ x. let y = h.1 x in omega (arith, y))
 
 -- ---- statements
@@ -123,7 +130,8 @@ s_loop_block k c ts = λ at us q b vs l h at2 ws q2. (at, us, at2, q, subst (Sta
 none_named : (x : Limit) (n : ℕ) → at_end x (named x 0 n) ≡ at_end x n
 none_named x n = end_of_named x 0 n ∙ end_at x (n + 0) n (omega arith)
 
-lead_stat : (c : Counts) (ts : List Tok) → wp a_stat (then (r.prefix leading c) (λ e. then (r.prefix_stat (first_line ts) c e) give)) ts (Post a_stat (r.stat c) ts)
+lead_stat : (c : Counts) (ts : List Tok)
+    → wp a_stat (then (r.prefix leading c) (λ e. then (r.prefix_stat (first_line ts) c e) give)) ts (Post a_stat (r.stat c) ts)
 lead_stat c ts = λ e us l h st vs m g. (g.0 ts (not_open (word_of us) h.1) h.0 refl, λ x. let y = h.2 x in let z = g.1 x in omega (arith, y, z))
 
 pub s_stat : (c : Counts) (ts : List Tok) → wp a_stat (program (r.stat c)) ts (Post a_stat (r.stat c) ts)
@@ -177,7 +185,8 @@ call_in e ts us (var_prefix (index_var p h)) q = absurd (subst (IsShape a_var) q
 call_in e ts us (var_prefix (dot_var p)) q = absurd (subst (IsShape a_var) q tt)
 call_in e ts us (paren_prefix h) q = absurd (subst (IsShape a_paren) q tt)
 
-by_shape : (line : ℕ) (c : Counts) (e : Expr) (ts : List Tok) (sh : Shape) → shape e ≡ sh → wp a_stat (prefix_stat_of line c e sh) ts (Post a_stat (r.prefix_stat line c e) ts)
+by_shape : (line : ℕ) (c : Counts) (e : Expr) (ts : List Tok) (sh : Shape) → shape e ≡ sh
+    → wp a_stat (prefix_stat_of line c e sh) ts (Post a_stat (r.prefix_stat line c e) ts)
 by_shape line c e ts a_var q = λ es us l h at vs q2 xs ws m g. (
   λ ts0 no p lq. subst (λ line. StatOf (assign line (expr_and e es) xs) ts0 ws) (sym lq) (assign_of (subst (VarList (expr_and e es) ts0) q2 (h.0 e ts0 (var_of e ts0 ts p q))) g.0),
   λ x. let y = h.1 x in let z = g.1 x in let n = none_named x (c x) in let k = ap (λ sh. most x (held (unfinished leading sh) c x) e) q in omega (arith, y, z, n, k),
@@ -188,10 +197,12 @@ by_shape line c e ts a_call q = (
 )
 by_shape line c e ts a_paren q = tt
 
-pub s_prefix_stat : (line : ℕ) (c : Counts) (e : Expr) (ts : List Tok) → wp a_stat (program (r.prefix_stat line c e)) ts (Post a_stat (r.prefix_stat line c e) ts)
+pub s_prefix_stat : (line : ℕ) (c : Counts) (e : Expr) (ts : List Tok)
+    → wp a_stat (program (r.prefix_stat line c e)) ts (Post a_stat (r.prefix_stat line c e) ts)
 s_prefix_stat line c e ts = by_shape line c e ts (shape e) refl
 
-target_by : (c : Counts) (at : Spot) (ts : List Tok) (e : Expr) (us : List Tok) (l : Needs) → Prefix e ts us → ((x : Limit) → l x ≡ most x (held (unfinished targeted (shape e)) c x) e) → (sh : Shape) → shape e ≡ sh
+target_by : (c : Counts) (at : Spot) (ts : List Tok) (e : Expr) (us : List Tok) (l : Needs) → Prefix e ts us
+    → ((x : Limit) → l x ≡ most x (held (unfinished targeted (shape e)) c x) e) → (sh : Shape) → shape e ≡ sh
     → wp some_targets (target_of c e sh) us (λ es vs m. Post some_targets (r.more_targets c) (tok (key w.comma) at ∷ ts) es vs (both free (both l m)))
 target_by c at ts e us l p i a_var q = λ es vs m g. (
   λ e0 ts0 v. var_and v (g.0 e ts (var_of e ts us p q)),
@@ -200,7 +211,8 @@ target_by c at ts e us l p i a_var q = λ es vs m g. (
 target_by c at ts e us l p i a_call q = tt
 target_by c at ts e us l p i a_paren q = tt
 
-pub s_more_targets : (c : Counts) (ts : List Tok) → wp some_targets (program (r.more_targets c)) ts (Post some_targets (r.more_targets c) ts)
+pub s_more_targets : (c : Counts) (ts : List Tok)
+    → wp some_targets (program (r.more_targets c)) ts (Post some_targets (r.more_targets c) ts)
 s_more_targets c [] = (λ e ts0 v. one_var v, λ x. omega arith)
 s_more_targets c (tok (key w.comma) at ∷ ts) = λ e us l h. target_by c at ts e us l h.0 h.2 (shape e) refl
 s_more_targets c (tok v at ∷ ts) = (λ e ts0 v. one_var v, λ x. omega arith)
@@ -214,7 +226,8 @@ end_locals nodes c k = refl
 end_locals locals c k = refl
 end_locals calls c k = refl
 
-names_end : (x : Limit) (c : Counts) (k l : ℕ) → max (at_end x (suc (c locals))) l ≡ at_end x (suc (c locals) + k) → max (at_end x (suc (c x))) l ≡ at_end x (c x + suc k)
+names_end : (x : Limit) (c : Counts) (k l : ℕ) → max (at_end x (suc (c locals))) l ≡ at_end x (suc (c locals) + k)
+    → max (at_end x (suc (c x))) l ≡ at_end x (c x + suc k)
 names_end x c k l h =
     let y = end_locals x c k in
     let z = end_locals x c 0 in
@@ -226,10 +239,12 @@ names_end x c k l h =
 regroup : (e1 nd l es nn : ℕ) → max (max e1 nd) (max l (max es nn)) ≡ max (max es nd) (max (max e1 l) nn)
 regroup e1 nd l es nn = omega arith
 
-loop_sum : (es nd mb en e1 l nn : ℕ) → max (max e1 l) nn ≡ mb → en ≤ e1 → max (max es nd) (max (max e1 l) nn) ≡ max (max es (max nd mb)) en
+loop_sum : (es nd mb en e1 l nn : ℕ) → max (max e1 l) nn ≡ mb → en ≤ e1
+    → max (max es nd) (max (max e1 l) nn) ≡ max (max es (max nd mb)) en
 loop_sum es nd mb en e1 l nn h i = omega (arith, h, i)
 
-gen_sum : (e1 nd l es nn k mb en m : ℕ) → max e1 l ≡ k → max k nn ≡ mb → en ≤ e1 → m ≡ es → max (max e1 nd) (max l (max m nn)) ≡ max (max es (max nd mb)) en
+gen_sum : (e1 nd l es nn k mb en m : ℕ) → max e1 l ≡ k → max k nn ≡ mb → en ≤ e1 → m ≡ es
+    → max (max e1 nd) (max l (max m nn)) ≡ max (max es (max nd mb)) en
 gen_sum e1 nd l es nn k mb en m h i j q = ap (λ m. max (max e1 nd) (max l (max m nn))) q ∙ (regroup e1 nd l es nn ∙ loop_sum es nd mb en e1 l nn (ap (λ k. max k nn) h ∙ i) j)
 
 from_names : (line : ℕ) (b : Bytes) (c : Counts) (ts : List Tok)
@@ -244,7 +259,8 @@ from_names line b c ts = λ xs us l h at2 vs q es ws m g d ys n i. (
       omega (arith, s),
 )
 
-pub s_for_rest : (line : ℕ) (b : Bytes) (c : Counts) (ts : List Tok) → wp a_stat (program (r.for_rest line b c)) ts (Post a_stat (r.for_rest line b c) ts)
+pub s_for_rest : (line : ℕ) (b : Bytes) (c : Counts) (ts : List Tok)
+    → wp a_stat (program (r.for_rest line b c)) ts (Post a_stat (r.for_rest line b c) ts)
 s_for_rest line b c [] = from_names line b c []
 s_for_rest line b c (tok (key w.assign) at ∷ ts) = λ a us l h at2 vs q e ws m g st xs n i.
     let j = h (omega arith) in
@@ -255,13 +271,15 @@ s_for_rest line b c (tok v at ∷ ts) = from_names line b c (tok v at ∷ ts)
 looped_end : (x : Limit) (c : Counts) → at_end x (in_loop 1 c x) ≡ at_end x (suc (c x))
 looped_end x c = end_of_looped x 1 (c x) ∙ end_at x (c x + 1) (suc (c x)) (omega arith)
 
-from_block : (line : ℕ) (b : Bytes) (a e : Expr) (c : Counts) (ts : List Tok) → wp a_stat (then (r.loop_block 1 c) (λ d. give (num_for line b a e d))) ts (Post a_stat (r.num_for_rest line b a e c) ts)
+from_block : (line : ℕ) (b : Bytes) (a e : Expr) (c : Counts) (ts : List Tok)
+    → wp a_stat (then (r.loop_block 1 c) (λ d. give (num_for line b a e d))) ts (Post a_stat (r.num_for_rest line b a e c) ts)
 from_block line b a e c ts = λ d vs m g. (
   λ at at2 at3 at4 mm nn lq ea ee. subst (λ line. StatOf (num_for line b a e d) (tok (key w.for_) at ∷ tok (w.name b) at2 ∷ tok (key w.assign) at3 ∷ mm) vs) (sym lq) (num_for_of ea (subst (Exp 0 e nn) g.3 ee) g.4),
   λ x. let y = g.5 x in let o = looped_end x c in let p = none_named x (c x) in let u = end_up x (c x) (suc (c x)) (omega arith) in omega (arith, y, o, p, u),
 )
 
-pub s_num_for_rest : (line : ℕ) (b : Bytes) (a e : Expr) (c : Counts) (ts : List Tok) → wp a_stat (program (r.num_for_rest line b a e c)) ts (Post a_stat (r.num_for_rest line b a e c) ts)
+pub s_num_for_rest : (line : ℕ) (b : Bytes) (a e : Expr) (c : Counts) (ts : List Tok)
+    → wp a_stat (program (r.num_for_rest line b a e c)) ts (Post a_stat (r.num_for_rest line b a e c) ts)
 s_num_for_rest line b a e c [] = from_block line b a e c []
 s_num_for_rest line b a e c (tok (key w.comma) at ∷ ts) = λ s us l h d vs m g.
     let j = h (omega arith) in (
@@ -285,7 +303,8 @@ from_local line c ts = λ b at us q xs vs l h es ws m g. (
       omega (arith, y, z, k, e, u),
 )
 
-pub s_local_rest : (line : ℕ) (c : Counts) (ts : List Tok) → wp a_stat (program (r.local_rest line c)) ts (Post a_stat (r.local_rest line c) ts)
+pub s_local_rest : (line : ℕ) (c : Counts) (ts : List Tok)
+    → wp a_stat (program (r.local_rest line c)) ts (Post a_stat (r.local_rest line c) ts)
 s_local_rest line c [] = from_local line c []
 s_local_rest line c (tok (key w.function_) at ∷ ts) = λ b at2 us q f vs l h. (
   λ at3 lq. subst (λ line. StatOf (local_function line b f) (tok (key w.local_) at3 ∷ tok (key w.function_) at ∷ ts) vs) (sym lq) (subst (λ ts. StatOf (local_function at3.line b f) (tok (key w.local_) at3 ∷ tok (key w.function_) at ∷ ts) vs) (sym q) (local_function_of h.0)),
@@ -317,13 +336,16 @@ s_last c (tok (key w.return_) at ∷ ts) = λ st us l h. (h.0 at refl, h.1, λ x
 s_last c (tok (key w.break_) at ∷ ts) = (break_of, refl, λ x. let y = break_need x c in omega (arith, y))
 s_last c (tok v at ∷ ts) = tt
 
-alone : (line : ℕ) (c : Counts) (ts : List Tok) → wp a_stat (give (return_stat line no_exprs)) ts (Post a_stat (r.return_rest line c) ts)
+alone : (line : ℕ) (c : Counts) (ts : List Tok)
+    → wp a_stat (give (return_stat line no_exprs)) ts (Post a_stat (r.return_rest line c) ts)
 alone line c ts = (λ at lq. subst (λ line. LastOf (return_stat line no_exprs) (tok (key w.return_) at ∷ ts) ts) (sym lq) return_of, refl, λ x. refl)
 
-with_values : (line : ℕ) (c : Counts) (ts : List Tok) → wp a_stat (then (r.exprs c) (λ es. give (return_stat line es))) ts (Post a_stat (r.return_rest line c) ts)
+with_values : (line : ℕ) (c : Counts) (ts : List Tok)
+    → wp a_stat (then (r.exprs c) (λ es. give (return_stat line es))) ts (Post a_stat (r.return_rest line c) ts)
 with_values line c ts = λ es us l h. (λ at lq. subst (λ line. LastOf (return_stat line es) (tok (key w.return_) at ∷ ts) us) (sym lq) (return_with_of h.0), refl, λ x. let y = h.1 x in omega (arith, y))
 
-pub s_return_rest : (line : ℕ) (c : Counts) (ts : List Tok) → wp a_stat (program (r.return_rest line c)) ts (Post a_stat (r.return_rest line c) ts)
+pub s_return_rest : (line : ℕ) (c : Counts) (ts : List Tok)
+    → wp a_stat (program (r.return_rest line c)) ts (Post a_stat (r.return_rest line c) ts)
 s_return_rest line c [] = alone line c []
 s_return_rest line c (tok (key w.end_) at ∷ ts) = alone line c (tok (key w.end_) at ∷ ts)
 s_return_rest line c (tok (key w.else_) at ∷ ts) = alone line c (tok (key w.else_) at ∷ ts)

@@ -13,10 +13,12 @@ use Rattle.lua_tree.proofs.Follow.{NotFrom, NotSuffix, Stops, NotComma}
 pub does_give : {s : Sort} {a : Value s} {ts : List Tok} → Does s (give a) ts a ts
 does_give = (free, gives)
 
-pub does_take : {s : Sort} {n : Needs} {p : Prog s} {t : Tok} {ts us : List Tok} {a : Value s} → Does s p ts a us → Does s (take n p) (t ∷ ts) a us
+pub does_take : {s : Sort} {n : Needs} {p : Prog s} {t : Tok} {ts us : List Tok} {a : Value s} → Does s p ts a us
+    → Does s (take n p) (t ∷ ts) a us
 does_take {n = n} d = (both n d.0, takes d.1)
 
-pub does_look : {s : Sort} {f : Word → Spot → Prog s} {ts us : List Tok} {a : Value s} → Does s (f (word_of ts) (spot_of ts)) ts a us → Does s (look f) ts a us
+pub does_look : {s : Sort} {f : Word → Spot → Prog s} {ts us : List Tok} {a : Value s}
+    → Does s (f (word_of ts) (spot_of ts)) ts a us → Does s (look f) ts a us
 does_look d = (d.0, looks d.1)
 
 pub does_expect : {s : Sort} {k : Key} {n : Needs} {f : Spot → Prog s} {at : Spot} {ts us : List Tok} {a : Value s}
@@ -32,7 +34,8 @@ pub does_then : {s q : Sort} {r : Rule q} {f : Value q → Prog s} {a : Value q}
 does_then d e = (both d.0 e.0, thens d.1 e.1)
 
 -- a rule that ends with another one
-pub does_last : {s : Sort} {r : Rule s} {a : Value s} {ts us : List Tok} → Does s (program r) ts a us → Does s (then r give) ts a us
+pub does_last : {s : Sort} {r : Rule s} {a : Value s} {ts us : List Tok} → Does s (program r) ts a us
+    → Does s (then r give) ts a us
 does_last d = does_then d does_give
 
 -- ---- what gives at once
@@ -43,12 +46,14 @@ leb_false p n h = grind (arith, h)
 pub leb_true : (p n : ℕ) → p ≤ n → leb p n ≡ true
 leb_true p n h = grind (arith, h)
 
-pub more_gives : (p : ℕ) (c : Counts) (e : Expr) (us : List Tok) → NotFrom p (word_of us) → Does an_expr (program (more p c e)) us e us
+pub more_gives : (p : ℕ) (c : Counts) (e : Expr) (us : List Tok) → NotFrom p (word_of us)
+    → Does an_expr (program (more p c e)) us e us
 more_gives p c e [] h = does_look does_give
 more_gives p c e (tok (w.op o) s ∷ us) h = does_look (rw (leb_false p (level o) h) does_give)
 more_gives p c e (tok v s ∷ us) h = does_look does_give
 
-pub suffixes_give : (k : Place) (c : Counts) (e : Expr) (us : List Tok) → NotSuffix (word_of us) → Does an_expr (program (suffixes k c e)) us e us
+pub suffixes_give : (k : Place) (c : Counts) (e : Expr) (us : List Tok) → NotSuffix (word_of us)
+    → Does an_expr (program (suffixes k c e)) us e us
 suffixes_give k c e [] h = does_look does_give
 suffixes_give k c e (tok (key w.open_bracket) s ∷ us) h = absurd h
 suffixes_give k c e (tok (key w.dot) s ∷ us) h = absurd h

@@ -61,7 +61,8 @@ loose_right o q o2 l h = (λ o3 g. loose_third o q o2 o3 l h g (kind o2) (kind o
     loose_unary o q o2 l h g (inr (inl k)) = let x = l.1 in x (omega (arith, h, k.1))
     loose_unary o q o2 l h g (inr (inr k)) = let x = l.0 o2 h in omega (arith, x, k.2)
 
-    loose_third : (o : BinOp) (q : ℕ) (o2 o3 : BinOp) → Loose o q → q ≤ level o2 → right_level o2 ≤ level o3 → Kind o2 → Kind o3 → level o < right_level o3
+    loose_third : (o : BinOp) (q : ℕ) (o2 o3 : BinOp) → Loose o q → q ≤ level o2 → right_level o2 ≤ level o3 → Kind o2 → Kind o3
+        → level o < right_level o3
     loose_third o q o2 o3 l h g (inl k) k3 = l.0 o3 (omega (arith, h, g, k.1))
     loose_third o q o2 o3 l h g (inr (inl k)) k3 = l.0 o3 (omega (arith, h, g, k.1, k.2))
     loose_third o q o2 o3 l h g (inr (inr k)) (inl k3) = absurd (omega (arith, g, k.2, k3.2))
@@ -130,5 +131,6 @@ tail q e ts us (binary_exp {o = o} {b = b} {m = m} h d f) a =
 tail q e ts us (unary_exp {e = f} {m = m} h u d) a =
     (not_unary q (word_of us) h a, tail unary_level f m us d (apart_unary q (word_of us) h a))
 
-pub tail_left : (o : BinOp) (a : Expr) (s : w.Spot) (ts us : List Tok) → Exp (left_level o) a ts (tok (w.op o) s ∷ us) → Tail a (w.op o)
+pub tail_left : (o : BinOp) (a : Expr) (s : w.Spot) (ts us : List Tok) → Exp (left_level o) a ts (tok (w.op o) s ∷ us)
+    → Tail a (w.op o)
 tail_left o a s ts us d = tail (left_level o) a ts (tok (w.op o) s ∷ us) d (loose_left o)

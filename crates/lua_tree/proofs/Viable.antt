@@ -49,12 +49,14 @@ up_left : (m n : Needs) → Up m (both m n)
 up_left m n = λ x. omega arith
 
 -- a rule that is the last one
-alive_last : (s : Sort) (q : Rule s) (d : Bool) (F : List Tok → Type 0) (G : Value s → Type 0) (m : Needs) → Base q m → ((us : List Tok) → F us → Behind q us) → ((a : Value s) → Good q a → G a)
+alive_last : (s : Sort) (q : Rule s) (d : Bool) (F : List Tok → Type 0) (G : Value s → Type 0) (m : Needs) → Base q m
+    → ((us : List Tok) → F us → Behind q us) → ((a : Value s) → Good q a → G a)
     → alive s (then q give) d F G m
 alive_last s q d F G m base i g = (base, λ d n a l u c w h. shut_give s a (Behind q) F G d n i (g a h), λ a l d c. tt)
 
 -- a rule, and then a value is given
-alive_give : (s t : Sort) (q : Rule t) (f : Value t → Value s) (d : Bool) (F : List Tok → Type 0) (G : Value s → Type 0) (m : Needs) → Base q m → ((us : List Tok) → F us → Behind q us) → ((a : Value t) → G (f a))
+alive_give : (s t : Sort) (q : Rule t) (f : Value t → Value s) (d : Bool) (F : List Tok → Type 0) (G : Value s → Type 0) (m : Needs)
+    → Base q m → ((us : List Tok) → F us → Behind q us) → ((a : Value t) → G (f a))
     → alive s (then q (λ a. give (f a))) d F G m
 alive_give s t q f d F G m base i g = (base, λ d n a l u c w h. shut_give s (f a) (Behind q) F G d n i (g a), λ a l d c. tt)
 
@@ -63,7 +65,8 @@ abbrev closes_give : (s t : Sort) (q : Rule t) (f : Value t → Value s) (b : Bo
 closes_give s t q f b F G m i g k = close_then s t q (λ a. give (f a)) F G b m k (shut_give s (f k.value) (Behind q) F G b m i (g k.value))
 
 -- a token and a value
-alive_token : (s : Sort) (n : Needs) (a : Value s) (b : Bool) (F : List Tok → Type 0) (G : Value s → Type 0) (m : Needs) → G a → alive s (take n (give a)) b F G m
+alive_token : (s : Sort) (n : Needs) (a : Value s) (b : Bool) (F : List Tok → Type 0) (G : Value s → Type 0) (m : Needs) → G a
+    → alive s (take n (give a)) b F G m
 alive_token s n a b F G m g = (close_give s a F G b (both m n) g, λ d. tt)
 
 -- ---- expressions
@@ -75,11 +78,13 @@ alive_expr p c b m = (
   λ a l d k. alive_last an_expr (r.more p c a) d BehindExp Each (both m l) tt (λ us i. i) (λ a i. tt),
 )
 
-alive_cond : (x : Bool) (s : Sort) (p q : Prog s) (b : Bool) (F : List Tok → Type 0) (G : Value s → Type 0) (m : Needs) → alive s p b F G m → alive s q b F G m → alive s (cond x p q) b F G m
+alive_cond : (x : Bool) (s : Sort) (p q : Prog s) (b : Bool) (F : List Tok → Type 0) (G : Value s → Type 0) (m : Needs)
+    → alive s p b F G m → alive s q b F G m → alive s (cond x p q) b F G m
 alive_cond true s p q b F G m h i = h
 alive_cond false s p q b F G m h i = i
 
-alive_more : (p : ℕ) (c : Counts) (a : Expr) (m : Needs) (v : Word) (at : Spot) → alive an_expr (r.more_of p c a v at) (is_name v) BehindExp Each m
+alive_more : (p : ℕ) (c : Counts) (a : Expr) (m : Needs) (v : Word) (at : Spot)
+    → alive an_expr (r.more_of p c a v at) (is_name v) BehindExp Each m
 alive_more p c a m (w.op o) at =
     let n = deep (suc (c nodes) + height a) in
     let has = has_of false (down c) (both m n) (let h = one_high a in omega (arith, h)) in
@@ -96,7 +101,8 @@ alive_more p c a m (w.op o) at =
     tt
 alive_more p c a m v at = tt
 
-alive_operand : (c : Counts) (o : Expr → Expr) (b : Bool) (m : Needs) → alive an_expr (take (deep (c nodes + 2)) (then (r.expr unary_level (down c)) (λ e. give (o e)))) b BehindExp Each m
+alive_operand : (c : Counts) (o : Expr → Expr) (b : Bool) (m : Needs)
+    → alive an_expr (take (deep (c nodes + 2)) (then (r.expr unary_level (down c)) (λ e. give (o e)))) b BehindExp Each m
 alive_operand c o b m =
     let n = both m (deep (c nodes + 2)) in (
       closes_give an_expr an_expr (r.expr unary_level (down c)) o b BehindExp Each n (λ us i. i) (λ a. tt) (closed_expr unary_level (down c) b n (has_of b (down c) n (omega arith))),
@@ -129,7 +135,8 @@ alive_first c m v at = alive_last an_expr (r.prefix in_expr c) (is_name v) Behin
 paren_high : (l : ℕ) (e : Expr) → height (paren l e) ≡ suc (height e)
 paren_high l e = let x = raised 1 e in let y = one_high e in omega (arith, x, y)
 
-alive_prefix : (k : Place) (c : Counts) (m : Needs) (v : Word) (at : Spot) → alive an_expr (r.prefix_of k c v at) (is_name v) BehindExp (Finished k) m
+alive_prefix : (k : Place) (c : Counts) (m : Needs) (v : Word) (at : Spot)
+    → alive an_expr (r.prefix_of k c v at) (is_name v) BehindExp (Finished k) m
 alive_prefix k c m (w.name x) at =
     let n = both m (deep (suc (c nodes))) in (
       shut_last an_expr (r.suffixes k c (name at.line x)) BehindExp (Finished k) true n (λ us i. i) (λ a i. i) (finished k c (name at.line x) true n refl),
@@ -157,7 +164,8 @@ alive_prefix k c m v at = tt
 -- ---- suffixes and arguments
 
 -- the nodes of a call are those of its callee and its arguments, one deeper
-alive_called : (k : Place) (c : Counts) (a : Expr) (b : Bool) (m : Needs) → alive an_expr (r.called k c a) b BehindExp (Finished k) m
+alive_called : (k : Place) (c : Counts) (a : Expr) (b : Bool) (m : Needs)
+    → alive an_expr (r.called k c a) b BehindExp (Finished k) m
 alive_called k c a b m =
     let h = held (unfinished k a_call) c in (
       tt,
@@ -167,12 +175,14 @@ alive_called k c a b m =
       λ v l d cost. alive_last an_expr (r.suffixes k c (call v.0 a v.1)) d BehindExp (Finished k) (both m l) tt (λ us i. i) (λ a i. i),
     )
   where
-    called_high : (h : Counts) (a : Expr) (line : ℕ) (es : Exprs) (l n : Needs) → ((x : Limit) → l x ≡ max (opening (suc (h nodes) + height a) line x) (most_exprs x (down h x) es)) → l nodes ≤ n nodes
+    called_high : (h : Counts) (a : Expr) (line : ℕ) (es : Exprs) (l n : Needs)
+        → ((x : Limit) → l x ≡ max (opening (suc (h nodes) + height a) line x) (most_exprs x (down h x) es)) → l nodes ≤ n nodes
         → h nodes + height (call line a es) ≤ n nodes
     called_high h a line es l n cost i =
         let x = cost nodes in let y = raised (h nodes) (call line a es) in let z = raised (suc (h nodes)) a in let v = one_high a in omega (arith, x, y, z, v, i)
 
-alive_suffixes : (k : Place) (c : Counts) (a : Expr) (m : Needs) (v : Word) (at : Spot) → alive an_expr (r.suffixes_of k c a v at) (is_name v) BehindExp (Finished k) m
+alive_suffixes : (k : Place) (c : Counts) (a : Expr) (m : Needs) (v : Word) (at : Spot)
+    → alive an_expr (r.suffixes_of k c a v at) (is_name v) BehindExp (Finished k) m
 alive_suffixes k c a m (key w.open_bracket) at =
     let n = both m (deep (suc (c nodes) + height a)) in
     let has = has_of false (down c) n (let h = one_high a in omega (arith, h)) in (
@@ -200,16 +210,19 @@ alive_suffixes k c a m (key w.dot) at =
     )
 alive_suffixes k c a m (key w.colon) at = alive_method k c a m at
   where
-    method_high : (h : Counts) (a : Expr) (line : ℕ) (x : Bytes) (es : Exprs) (l n : Needs) → ((y : Limit) → l y ≡ max (opening (suc (h nodes) + height a) line y) (most_exprs y (down h y) es)) → l nodes ≤ n nodes
+    method_high : (h : Counts) (a : Expr) (line : ℕ) (x : Bytes) (es : Exprs) (l n : Needs)
+        → ((y : Limit) → l y ≡ max (opening (suc (h nodes) + height a) line y) (most_exprs y (down h y) es)) → l nodes ≤ n nodes
         → h nodes + height (method line a x es) ≤ n nodes
     method_high h a line x es l n cost i =
         let v = cost nodes in let y = raised (h nodes) (method line a x es) in let z = raised (suc (h nodes)) a in let q = one_high a in omega (arith, v, y, z, q, i)
 
-    alone_high : (h : Counts) (a : Expr) (line : ℕ) (x : Bytes) (n : Needs) → suc (h nodes) + height a ≤ n nodes → h nodes + height (method (suc line) a x no_exprs) ≤ n nodes
+    alone_high : (h : Counts) (a : Expr) (line : ℕ) (x : Bytes) (n : Needs) → suc (h nodes) + height a ≤ n nodes
+        → h nodes + height (method (suc line) a x no_exprs) ≤ n nodes
     alone_high h a line x n i = let y = raised (h nodes) (method (suc line) a x no_exprs) in let z = raised (suc (h nodes)) a in let q = one_high a in omega (arith, y, z, q, i)
 
     -- a name, and arguments in parentheses
-    closed_behind : (k : Place) (c : Counts) (a : Expr) (x : Bytes) (b : Bool) (n : Needs) → suc (held (unfinished k a_call) c nodes) + height a ≤ n nodes
+    closed_behind : (k : Place) (c : Counts) (a : Expr) (x : Bytes) (b : Bool) (n : Needs)
+        → suc (held (unfinished k a_call) c nodes) + height a ≤ n nodes
         → Closed an_expr (then (r.args (suc (held (unfinished k a_call) c nodes) + height a) (down (held (unfinished k a_call) c))) (λ v. then (r.suffixes k c (method v.0 a x v.1)) give)) BehindExp (Finished k) b n
     closed_behind k c a x b n i =
         let h = held (unfinished k a_call) c in
@@ -228,7 +241,8 @@ alive_suffixes k c a m (key w.colon) at = alive_method k c a m at
           λ v l d cost. alive_last an_expr (r.suffixes k c (method v.0 a x v.1)) d BehindExp (Finished k) (both n l) tt (λ us i. i) (λ a i. i),
         )
 
-    alive_method : (k : Place) (c : Counts) (a : Expr) (m : Needs) (at : Spot) → alive an_expr (r.suffixes_of k c a (key w.colon) at) false BehindExp (Finished k) m
+    alive_method : (k : Place) (c : Counts) (a : Expr) (m : Needs) (at : Spot)
+        → alive an_expr (r.suffixes_of k c a (key w.colon) at) false BehindExp (Finished k) m
     alive_method k c a m at =
         let n = both m (deep (suc (held (unfinished k a_call) c nodes) + height a)) in (
           close_name an_expr free _ BehindExp (Finished k) false n (free_within false n) (closed_behind k c a [] false n (omega arith)),
@@ -253,7 +267,8 @@ alive_args n c m (key w.open_brace) at =
 alive_args n c m (w.str x) at = alive_token an_args _ _ false Any Each m tt
 alive_args n c m v at = tt
 
-alive_paren_args : (l : ℕ) (c : Counts) (m : Needs) (v : Word) (at : Spot) → alive an_args (r.paren_args_of l c v at) (is_name v) Any Each m
+alive_paren_args : (l : ℕ) (c : Counts) (m : Needs) (v : Word) (at : Spot)
+    → alive an_args (r.paren_args_of l c v at) (is_name v) Any Each m
 alive_paren_args l c m (key w.close_paren) at = alive_token an_args _ _ false Any Each m tt
 alive_paren_args l c m v at = (
   tt,
@@ -268,7 +283,8 @@ alive_exprs c b m = (
   λ e l d cost. alive_give some_exprs some_exprs (r.more_exprs c) _ d BehindList Each (both m l) (has_read 0 c e l (both m l) (omega arith) cost (omega arith)) (λ us i. i) (λ a. tt),
 )
 
-alive_more_exprs : (c : Counts) (m : Needs) → Has c m → (v : Word) (at : Spot) → alive some_exprs (r.more_exprs_of c v at) (is_name v) BehindList Each m
+alive_more_exprs : (c : Counts) (m : Needs) → Has c m → (v : Word) (at : Spot)
+    → alive some_exprs (r.more_exprs_of c v at) (is_name v) BehindList Each m
 alive_more_exprs c m h (key w.comma) at =
     let n = both m free in (
       shut_last some_exprs (r.exprs c) BehindList Each false n (λ us i. i) (λ a i. tt) (closed_exprs c false n (has_up c m n h (up_left m free))),
@@ -279,12 +295,14 @@ alive_more_exprs c m h v at = tt
 -- ---- fields
 
 -- an expression and further fields
-closed_value : (c : Counts) (f : Expr → Fields → Fields) (b : Bool) (m : Needs) → Has c m → Closed some_fields (then (r.expr 0 c) (λ e. then (r.more_fields c) (λ fs. give (f e fs)))) Any Each b m
+closed_value : (c : Counts) (f : Expr → Fields → Fields) (b : Bool) (m : Needs) → Has c m
+    → Closed some_fields (then (r.expr 0 c) (λ e. then (r.more_fields c) (λ fs. give (f e fs)))) Any Each b m
 closed_value c f b m h =
     close_then some_fields an_expr (r.expr 0 c) (λ e. then (r.more_fields c) (λ fs. give (f e fs))) Any Each b m (closed_expr 0 c b m h)
     (record { closed = closes_give some_fields some_fields (r.more_fields c) _ b Any Each m (λ us i. tt) (λ a. tt) (closed_more_fields c b m); stands = λ us i. (tt, tt) })
 
-alive_value : (c : Counts) (f : Expr → Fields → Fields) (b : Bool) (m : Needs) → alive some_fields (then (r.expr 0 c) (λ e. then (r.more_fields c) (λ fs. give (f e fs)))) b Any Each m
+alive_value : (c : Counts) (f : Expr → Fields → Fields) (b : Bool) (m : Needs)
+    → alive some_fields (then (r.expr 0 c) (λ e. then (r.more_fields c) (λ fs. give (f e fs)))) b Any Each m
 alive_value c f b m = (
   tt,
   λ d n e l u cost i g. record { closed = closes_give some_fields some_fields (r.more_fields c) (f e) d Any Each n (λ us i. tt) (λ a. tt) (closed_more_fields c d n); stands = λ us i. (tt, tt) },
@@ -323,7 +341,8 @@ item_closed c a d n =
     close_then some_fields an_expr (r.more 0 c a) (λ e. then (r.more_fields c) (λ fs. give (item_and e fs))) Any Each d n (closed_more 0 c a d n)
     (record { closed = closes_give some_fields some_fields (r.more_fields c) (item_and a) d Any Each n (λ us i. tt) (λ a. tt) (closed_more_fields c d n); stands = λ us i. (tt, tt) })
 
-alive_name_field : (line : ℕ) (x : Bytes) (c : Counts) (m : Needs) → Has c m → (v : Word) (at : Spot) → alive some_fields (r.name_field_of line x c v at) (is_name v) Any Each m
+alive_name_field : (line : ℕ) (x : Bytes) (c : Counts) (m : Needs) → Has c m → (v : Word) (at : Spot)
+    → alive some_fields (r.name_field_of line x c v at) (is_name v) Any Each m
 alive_name_field line x c m h (key w.assign) at =
     let n = both m free in (closed_value c (keyed_and (str line x)) false n (has_up c m n h (up_left m free)), λ d. alive_value c (keyed_and (str line x)) d n)
 alive_name_field line x c m h v at = (
@@ -336,7 +355,8 @@ alive_name_field line x c m h v at = (
   ),
 )
 
-alive_more_fields : (c : Counts) (m : Needs) (v : Word) (at : Spot) → alive some_fields (r.more_fields_of c v at) (is_name v) Any Each m
+alive_more_fields : (c : Counts) (m : Needs) (v : Word) (at : Spot)
+    → alive some_fields (r.more_fields_of c v at) (is_name v) Any Each m
 alive_more_fields c m (key w.comma) at =
     let n = both m free in
     (shut_last some_fields (r.fields c) Any Each false n (λ us i. i) (λ a i. tt) (closed_fields c false n), λ d. alive_last some_fields (r.fields c) d Any Each n tt (λ us i. i) (λ a i. tt))
@@ -354,14 +374,16 @@ closed_to_end s c f F b m =
     close_then s a_block (r.block c) (λ b. expect w.end_ free (λ at. give (f b))) F Each b m (closed_block c b m)
     (shut_key s w.end_ free _ Ends F Each b m (free_within b m) (close_give s _ F Each b m tt) (λ us. tt))
 
-alive_to_end : (s : Sort) (c : Counts) (f : Block → Value s) (F : List Tok → Type 0) (b : Bool) (m : Needs) → alive s (then (r.block c) (λ b. expect w.end_ free (λ at. give (f b)))) b F Each m
+alive_to_end : (s : Sort) (c : Counts) (f : Block → Value s) (F : List Tok → Type 0) (b : Bool) (m : Needs)
+    → alive s (then (r.block c) (λ b. expect w.end_ free (λ at. give (f b)))) b F Each m
 alive_to_end s c f F b m = (
   tt,
   λ d n a l u cost i g. shut_key s w.end_ free _ Ends F Each d n (free_within d n) (close_give s (f a) F Each d n tt) (λ us. tt),
   λ a l d cost at. (close_give s (f a) F Each false (both (both m l) free) tt, λ d. tt),
 )
 
-alive_func_body : (line : ℕ) (hidden : List Bytes) (c : Counts) (b : Bool) (m : Needs) → alive a_func (program (r.func_body line hidden c)) b Any Each m
+alive_func_body : (line : ℕ) (hidden : List Bytes) (c : Counts) (b : Bool) (m : Needs)
+    → alive a_func (program (r.func_body line hidden c)) b Any Each m
 alive_func_body line hidden c b m = λ at.
     let n = both m free in (
       close_then a_func some_params (r.params (length hidden)) _ Any Each false n (closed_params (length hidden) false n) (shut_any a_func _ Any Each false n (closed_to_end a_func _ _ Any false n)),
@@ -387,14 +409,16 @@ alive_next_param n m (w.name x) at =
     )
 alive_next_param n m v at = tt
 
-alive_more_params : (n : ℕ) (m : Needs) (v : Word) (at : Spot) → alive some_params (r.more_params_of n v at) (is_name v) Any Each m
+alive_more_params : (n : ℕ) (m : Needs) (v : Word) (at : Spot)
+    → alive some_params (r.more_params_of n v at) (is_name v) Any Each m
 alive_more_params n m (key w.comma) at =
     let o = both m free in
     (shut_last some_params (r.next_param n) Any Each false o (λ us i. i) (λ a i. tt) (closed_next_param n false o), λ d. alive_last some_params (r.next_param n) d Any Each o tt (λ us i. i) (λ a i. tt))
 alive_more_params n m (key w.close_paren) at = alive_token some_params _ _ false Any Each m tt
 alive_more_params n m v at = tt
 
-alive_more_names : (n : ℕ) (m : Needs) (v : Word) (at : Spot) → alive some_names (r.more_names_of n v at) (is_name v) BehindNames Each m
+alive_more_names : (n : ℕ) (m : Needs) (v : Word) (at : Spot)
+    → alive some_names (r.more_names_of n v at) (is_name v) BehindNames Each m
 alive_more_names n m (key w.comma) at =
     let o = both m free in
     let p = both o (many (suc n)) in (
@@ -407,7 +431,8 @@ alive_more_names n m (key w.comma) at =
     )
 alive_more_names n m v at = tt
 
-alive_func_name : (c : Counts) (a : Expr) (m : Needs) (v : Word) (at : Spot) → alive a_target (r.func_name_of c a v at) (is_name v) (Behind (r.func_name c a)) Each m
+alive_func_name : (c : Counts) (a : Expr) (m : Needs) (v : Word) (at : Spot)
+    → alive a_target (r.func_name_of c a v at) (is_name v) (Behind (r.func_name c a)) Each m
 alive_func_name c a m (key w.dot) at =
     let n = both m (deep (suc (c nodes) + height a)) in
     let o = both n free in (
@@ -441,13 +466,15 @@ assign_exp v h = absurd h
 abbrev closed_looped : (k : ℕ) (c : Counts) (f : Block → Stat) (b : Bool) (m : Needs) → Closed a_stat (then (r.loop_block k c) (λ b. give (f b))) Ends Each b m
 closed_looped k c f b m = closes_give a_stat a_block (r.loop_block k c) f b Ends Each m (λ us i. tt) (λ a. tt) (closed_loop_block k c b m)
 
-alive_looped : (k : ℕ) (c : Counts) (f : Block → Stat) (b : Bool) (m : Needs) → alive a_stat (then (r.loop_block k c) (λ b. give (f b))) b Ends Each m
+alive_looped : (k : ℕ) (c : Counts) (f : Block → Stat) (b : Bool) (m : Needs)
+    → alive a_stat (then (r.loop_block k c) (λ b. give (f b))) b Ends Each m
 alive_looped k c f b m = alive_give a_stat a_block (r.loop_block k c) f b Ends Each m tt (λ us i. tt) (λ a. tt)
 
 abbrev shut_looped : (k : ℕ) (c : Counts) (f : Block → Stat) (E : List Tok → Type 0) (b : Bool) (m : Needs) → ((us : List Tok) → E (tok (key w.do_) nowhere ∷ us)) → Shut a_stat (then (r.loop_block k c) (λ b. give (f b))) E Ends Each b m
 shut_looped k c f E b m e = record { closed = closed_looped k c f b m; stands = λ us i. e _ }
 
-alive_num_for_rest : (line : ℕ) (x : Bytes) (a b : Expr) (c : Counts) (m : Needs) → Has c m → (v : Word) (at : Spot) → alive a_stat (r.num_for_rest_of line x a b c v at) (is_name v) Ends Each m
+alive_num_for_rest : (line : ℕ) (x : Bytes) (a b : Expr) (c : Counts) (m : Needs) → Has c m → (v : Word) (at : Spot)
+    → alive a_stat (r.num_for_rest_of line x a b c v at) (is_name v) Ends Each m
 alive_num_for_rest line x a b c m h (key w.comma) at =
     let n = both m free in (
       close_then a_stat an_expr (r.expr 0 c) _ Ends Each false n (closed_expr 0 c false n (has_up c m n h (up_left m free))) (shut_looped 1 c _ BehindExp false n (λ us. (tt, tt))),
@@ -455,7 +482,8 @@ alive_num_for_rest line x a b c m h (key w.comma) at =
     )
 alive_num_for_rest line x a b c m h v at = alive_looped 1 c _ (is_name v) m
 
-alive_for_rest : (line : ℕ) (x : Bytes) (c : Counts) (m : Needs) → Has c m → (v : Word) (at : Spot) → alive a_stat (r.for_rest_of line x c v at) (is_name v) Ends Each m
+alive_for_rest : (line : ℕ) (x : Bytes) (c : Counts) (m : Needs) → Has c m → (v : Word) (at : Spot)
+    → alive a_stat (r.for_rest_of line x c v at) (is_name v) Ends Each m
 alive_for_rest line x c m h (key w.assign) at =
     let n = both m free in
     let has = has_up c m n h (up_left m free) in
@@ -489,7 +517,8 @@ alive_for_rest line x c m h v at = (
       ),
 )
   where
-    third : (xs : List Bytes) (d : Bool) (n : Needs) → Has c n → Closed a_stat (then (r.exprs c) (λ es. then (r.loop_block (length (x ∷ xs)) c) (λ b. give (gen_for line (x ∷ xs) es b)))) Ends Each d n
+    third : (xs : List Bytes) (d : Bool) (n : Needs) → Has c n
+        → Closed a_stat (then (r.exprs c) (λ es. then (r.loop_block (length (x ∷ xs)) c) (λ b. give (gen_for line (x ∷ xs) es b)))) Ends Each d n
     third xs d n i =
         close_then a_stat some_exprs (r.exprs c) (λ es. then (r.loop_block (length (x ∷ xs)) c) (λ b. give (gen_for line (x ∷ xs) es b))) Ends Each d n (closed_exprs c d n i)
         (shut_looped (length (x ∷ xs)) c _ BehindList d n (λ us. (tt, tt, tt)))
@@ -517,7 +546,8 @@ alive_local_names line c b m = λ x at.
       λ d. (tt, λ d o xs l u cost i g. shut_init c _ BehindNames d o ends_names, λ xs l d cost. alive_give a_stat some_exprs (r.init c) _ d Ends Each (both n l) tt (λ us i. i) (λ a. tt)),
     )
 
-alive_local_rest : (line : ℕ) (c : Counts) (m : Needs) (v : Word) (at : Spot) → alive a_stat (r.local_rest_of line c v at) (is_name v) Ends Each m
+alive_local_rest : (line : ℕ) (c : Counts) (m : Needs) (v : Word) (at : Spot)
+    → alive a_stat (r.local_rest_of line c v at) (is_name v) Ends Each m
 alive_local_rest line c m (key w.function_) at =
     let n = both m (deep (suc (c nodes))) in
     let o = both n (many (suc (c locals))) in (
@@ -530,7 +560,8 @@ alive_local_rest line c m (key w.function_) at =
     )
 alive_local_rest line c m v at = alive_local_names line c (is_name v) m
 
-alive_return_rest : (line : ℕ) (c : Counts) (m : Needs) (v : Word) (at : Spot) → alive a_stat (r.return_rest_of line c v at) (is_name v) Ends Each m
+alive_return_rest : (line : ℕ) (c : Counts) (m : Needs) (v : Word) (at : Spot)
+    → alive a_stat (r.return_rest_of line c v at) (is_name v) Ends Each m
 alive_return_rest line c m (key w.end_) at = tt
 alive_return_rest line c m (key w.else_) at = tt
 alive_return_rest line c m (key w.elseif) at = tt
@@ -552,7 +583,8 @@ assign_rest line c e d n h =
     close_then a_stat some_targets (r.more_targets c) (λ es. expect w.assign free (λ at. then (r.exprs c) (λ vs. give (assign line (expr_and e es) vs)))) Ends Each d n (closed_more_targets c d n)
     (shut_key a_stat w.assign free _ Assigns Ends Each d n (free_within d n) (closes_give a_stat some_exprs (r.exprs c) _ d Ends Each n ends_list (λ a. tt) (closed_exprs c d n h)) (λ us. tt))
 
-alive_prefix_stat : (line : ℕ) (c : Counts) (e : Expr) (sh : Shape) (b : Bool) (m : Needs) → Has c m → alive a_stat (r.prefix_stat_of line c e sh) b Ends Each m
+alive_prefix_stat : (line : ℕ) (c : Counts) (e : Expr) (sh : Shape) (b : Bool) (m : Needs) → Has c m
+    → alive a_stat (r.prefix_stat_of line c e sh) b Ends Each m
 alive_prefix_stat line c e a_var b m h = (
   h,
   λ d n es l u cost i g. shut_key a_stat w.assign free _ Assigns Ends Each d n (free_within d n) (closes_give a_stat some_exprs (r.exprs c) _ d Ends Each n ends_list (λ a. tt) (closed_exprs c d n (has_up c m n h u))) (λ us. tt),
@@ -575,25 +607,29 @@ as_shape line c e sh d n same k =
     }
 
 -- a statement goes on behind a prefix expression that has the suffix that it needs
-shut_stat : (line : ℕ) (c : Counts) (e : Expr) (sh : Shape) (d : Bool) (n : Needs) → shape e ≡ sh → unfinished leading sh ≡ false → Has c n → Shut a_stat (then (r.prefix_stat line c e) give) BehindExp Ends Each d n
+shut_stat : (line : ℕ) (c : Counts) (e : Expr) (sh : Shape) (d : Bool) (n : Needs) → shape e ≡ sh → unfinished leading sh ≡ false
+    → Has c n → Shut a_stat (then (r.prefix_stat line c e) give) BehindExp Ends Each d n
 shut_stat line c e a_var d n same g h =
     record { closed = shut_last a_stat (r.prefix_stat line c e) Ends Each d n (λ us i. i) (λ a i. tt) (as_shape line c e a_var d n same (assign_rest line c e d n h)); stands = λ us i. (tt, tt) }
 shut_stat line c e a_call d n same g h =
     record { closed = shut_last a_stat (r.prefix_stat line c e) Ends Each d n (λ us i. i) (λ a i. tt) (as_shape line c e a_call d n same (close_give a_stat (call_stat line e) Ends Each d n tt)); stands = ends_exp }
 shut_stat line c e a_paren d n same g h = absurd (grind (arith, g))
 
-alive_target : (c : Counts) (e : Expr) (sh : Shape) (b : Bool) (m : Needs) → Has c m → alive some_targets (r.target_of c e sh) b Assigns Each m
+alive_target : (c : Counts) (e : Expr) (sh : Shape) (b : Bool) (m : Needs) → Has c m
+    → alive some_targets (r.target_of c e sh) b Assigns Each m
 alive_target c e a_var b m h = alive_give some_targets some_targets (r.more_targets c) _ b Assigns Each m h (λ us i. i) (λ a. tt)
 alive_target c e a_call b m h = tt
 alive_target c e a_paren b m h = tt
 
-shut_target : (c : Counts) (e : Expr) (sh : Shape) (d : Bool) (n : Needs) → unfinished targeted sh ≡ false → Shut some_targets (r.target_of c e sh) BehindExp Assigns Each d n
+shut_target : (c : Counts) (e : Expr) (sh : Shape) (d : Bool) (n : Needs) → unfinished targeted sh ≡ false
+    → Shut some_targets (r.target_of c e sh) BehindExp Assigns Each d n
 shut_target c e a_var d n g =
     record { closed = closes_give some_targets some_targets (r.more_targets c) _ d Assigns Each n (λ us i. i) (λ a. tt) (closed_more_targets c d n); stands = λ us i. assign_exp (word_of us) i }
 shut_target c e a_call d n g = absurd (grind (arith, g))
 shut_target c e a_paren d n g = absurd (grind (arith, g))
 
-alive_more_targets : (c : Counts) (m : Needs) → Has c m → (v : Word) (at : Spot) → alive some_targets (r.more_targets_of c v at) (is_name v) Assigns Each m
+alive_more_targets : (c : Counts) (m : Needs) → Has c m → (v : Word) (at : Spot)
+    → alive some_targets (r.more_targets_of c v at) (is_name v) Assigns Each m
 alive_more_targets c m h (key w.comma) at =
     let n = both m free in
     let k = closed_prefix targeted c false n (has_up c m n h (up_left m free)) in (
@@ -621,7 +657,8 @@ alive_stat c m (key w.repeat_) at =
       ),
     )
   where
-    until_closed : (b : Block) (d : Bool) (o : Needs) → Has c o → Closed a_stat (then (r.expr 0 c) (λ e. give (repeat_loop at.line b e))) Ends Each d o
+    until_closed : (b : Block) (d : Bool) (o : Needs) → Has c o
+        → Closed a_stat (then (r.expr 0 c) (λ e. give (repeat_loop at.line b e))) Ends Each d o
     until_closed b d o h = closes_give a_stat an_expr (r.expr 0 c) _ d Ends Each o ends_exp (λ a. tt) (closed_expr 0 c d o h)
 alive_stat c m (key w.if_) at =
     let n = both m (deep (suc (c nodes))) in (
@@ -648,10 +685,12 @@ alive_stat c m (key w.function_) at =
       ),
     )
   where
-    body_closed : (t : Expr × List Bytes) (d : Bool) (q : Needs) → Shut a_stat (then (r.func_body at.line t.1 c) (λ f. give (function_stat at.line t.0 f))) (Behind (r.func_name c (name 1 []))) Ends Each d q
+    body_closed : (t : Expr × List Bytes) (d : Bool) (q : Needs)
+        → Shut a_stat (then (r.func_body at.line t.1 c) (λ f. give (function_stat at.line t.0 f))) (Behind (r.func_name c (name 1 []))) Ends Each d q
     body_closed t d q = record { closed = closes_give a_stat a_func (r.func_body at.line t.1 c) _ d Ends Each q (λ us i. tt) (λ a. tt) (closed_func_body at.line t.1 c d q); stands = λ us i. tt }
 
-    named_body : (a : Expr) (d : Bool) (q : Needs) → Closed a_stat (then (r.func_name c a) (λ t. then (r.func_body at.line t.1 c) (λ f. give (function_stat at.line t.0 f)))) Ends Each d q
+    named_body : (a : Expr) (d : Bool) (q : Needs)
+        → Closed a_stat (then (r.func_name c a) (λ t. then (r.func_body at.line t.1 c) (λ f. give (function_stat at.line t.0 f)))) Ends Each d q
     named_body a d q = close_then a_stat a_target (r.func_name c a) _ Ends Each d q (closed_func_name c a d q) (body_closed (a, []) d q)
 alive_stat c m (key w.local_) at =
     let n = both m free in
@@ -722,7 +761,8 @@ alive_arms c b m = (
       ),
 )
 
-alive_more_arms : (c : Counts) (m : Needs) → Has c m → (v : Word) (at : Spot) → alive some_arms (r.more_arms_of c v at) (is_name v) Any Each m
+alive_more_arms : (c : Counts) (m : Needs) → Has c m → (v : Word) (at : Spot)
+    → alive some_arms (r.more_arms_of c v at) (is_name v) Any Each m
 alive_more_arms c m h (key w.elseif) at =
     let n = both m free in
     (shut_last some_arms (r.arms c) Any Each false n (λ us i. i) (λ a i. tt) (closed_arms c false n (has_up c m n h (up_left m free))), λ d. alive_last some_arms (r.arms c) d Any Each n tt (λ us i. i) (λ a i. tt))

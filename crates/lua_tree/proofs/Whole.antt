@@ -30,7 +30,8 @@ names_more n s xs ts us (g.name_and {xs = ys} {s' = s2} {m = m} d) h =
     does_look (does_take (does_expect_name (does_then (names_more (suc n) s2 ys m us d h) does_give)))
 
 -- names, and then the rest of a program that begins with one
-names_lead : {s : Reading.Sort} (n : ℕ) (need : Reading.Needs) (xs : List Bytes) (ts us : List Tok) (P : List Bytes → Prog s) → NameList xs ts us → NotComma (word_of us)
+names_lead : {s : Reading.Sort} (n : ℕ) (need : Reading.Needs) (xs : List Bytes) (ts us : List Tok) (P : List Bytes → Prog s)
+    → NameList xs ts us → NotComma (word_of us)
     → Leads s (expect_name need (λ x at. then (Reading.more_names n) (λ ys. P (x ∷ ys)))) ts (P xs) us
 names_lead n need xs ts us P g.one_name h = λ a vs d. does_expect_name (does_then (names_end n us h) d)
 names_lead n need xs ts us P (g.name_and {xs = ys} {s' = s2} {m = m} e) h = λ a vs d. does_expect_name (does_then (names_more n s2 ys m us e h) d)
@@ -48,7 +49,8 @@ params_names : (n : ℕ) (r : List Bytes × Bool) (xs : List Bytes) (ts us vs : 
 params_names n r xs ts us vs g.one_name d = does_look (does_last d)
 params_names n r xs ts us vs (g.name_and e) d = does_look (does_last d)
 
-params_do : (n : ℕ) (xs : List Bytes) (has_dots : Bool) (ts us : List Tok) → Params xs has_dots ts us → Does some_params (program (Reading.params n)) ts (xs, has_dots) us
+params_do : (n : ℕ) (xs : List Bytes) (has_dots : Bool) (ts us : List Tok) → Params xs has_dots ts us
+    → Does some_params (program (Reading.params n)) ts (xs, has_dots) us
 params_do n xs has_dots ts us g.no_params = does_look (does_take does_give)
 params_do n xs has_dots ts us g.only_dots = does_look (does_last (does_look (does_take (does_expect does_give))))
 params_do n xs has_dots ts us (g.only_names {s = s} d) =
@@ -66,14 +68,16 @@ path_on : {s : Reading.Sort} (c : Counts) (b : Expr) (x : Bytes) (at at2 : Spot)
     → Does s (then (Reading.func_name c b) P) (tok (key w.dot) at ∷ tok (w.name x) at2 ∷ us) v vs
 path_on c b x at at2 us P v vs (l, thens {l = k} {m = m} d f) = does_then (does_look (does_take (does_expect_name (does_last (k, d))))) (m, f)
 
-path_leads : {s : Reading.Sort} (need : Reading.Needs) (c : Counts) (a : Expr) (ts us : List Tok) (P : Expr × List Bytes → Prog s) → NamePath a ts us
+path_leads : {s : Reading.Sort} (need : Reading.Needs) (c : Counts) (a : Expr) (ts us : List Tok) (P : Expr × List Bytes → Prog s)
+    → NamePath a ts us
     → Leads s (expect_name need (λ x at. then (Reading.func_name c (name at.line x)) P)) ts (then (Reading.func_name c a) P) us
 path_leads need c a ts us P g.one_path = λ v vs d. does_expect_name d
 path_leads need c a ts us P (g.dot_path {a = b} {x = x} {s = at} {s' = at2} e) = λ v vs d.
     path_leads need c b ts (tok (key w.dot) at ∷ tok (w.name x) at2 ∷ us) P e v vs (path_on c b x at at2 us P v vs d)
 
 -- behind a path no `.` and no `:` follows but those of a function's name
-name_leads : {s : Reading.Sort} (need : Reading.Needs) (c : Counts) (a : Expr) (hidden : List Bytes) {at : Spot} (ts us : List Tok) (P : Expr × List Bytes → Prog s) → FuncName a hidden ts (tok (key w.open_paren) at ∷ us)
+name_leads : {s : Reading.Sort} (need : Reading.Needs) (c : Counts) (a : Expr) (hidden : List Bytes) {at : Spot} (ts us : List Tok) (P : Expr × List Bytes → Prog s)
+    → FuncName a hidden ts (tok (key w.open_paren) at ∷ us)
     → Leads s (expect_name need (λ x at. then (Reading.func_name c (name at.line x)) P)) ts (P (a, hidden)) (tok (key w.open_paren) at ∷ us)
 name_leads need c a hidden ts us P (g.plain_name d) = λ v vs e. path_leads need c a ts _ P d v vs (does_then (does_look does_give) e)
 name_leads need c a hidden ts us P (g.method_name {a = b} {x = x} {s = s} {s' = s2} d) = λ v vs e.
@@ -82,10 +86,13 @@ name_leads need c a hidden ts us P (g.method_name {a = b} {x = x} {s = s} {s' = 
 -- ---- expressions
 
 -- an operand that is read goes on as an expression
-operand : {e : Expr} {ts us : List Tok} {p : ℕ} {c : Counts} → Does an_expr (program (Reading.first c)) ts e us → Leads an_expr (program (Reading.expr p c)) ts (program (Reading.more p c e)) us
+operand : {e : Expr} {ts us : List Tok} {p : ℕ} {c : Counts} → Does an_expr (program (Reading.first c)) ts e us
+    → Leads an_expr (program (Reading.expr p c)) ts (program (Reading.more p c e)) us
 operand d = λ a vs f. does_then d (does_last f)
 
-exp_done : (e : Expr) (ts us : List Tok) (c : Counts) → Stops (word_of us) → Leads an_expr (program (Reading.expr 0 c)) ts (program (Reading.more 0 c e)) us → Does an_expr (program (Reading.expr 0 c)) ts e us
+exp_done : (e : Expr) (ts us : List Tok) (c : Counts) → Stops (word_of us)
+    → Leads an_expr (program (Reading.expr 0 c)) ts (program (Reading.more 0 c e)) us
+    → Does an_expr (program (Reading.expr 0 c)) ts e us
 exp_done e ts us c h f = f e us (more_gives 0 c e us (stops_from 0 (word_of us) h))
 
 -- ... where the rule leads on, given that its last operand takes in nothing
@@ -101,13 +108,15 @@ tail_suffix v e ts us (g.call_prefix (g.plain_call d f)) h = h
 tail_suffix v e ts us (g.call_prefix (g.method_call d f)) h = h
 tail_suffix v e ts us (g.paren_prefix d) h = h
 
-first_prefix : (c : Counts) (e : Expr) (ts us : List Tok) → StartsPrefix (word_of ts) → Does an_expr (program (Reading.prefix in_expr c)) ts e us → Does an_expr (program (Reading.first c)) ts e us
+first_prefix : (c : Counts) (e : Expr) (ts us : List Tok) → StartsPrefix (word_of ts)
+    → Does an_expr (program (Reading.prefix in_expr c)) ts e us → Does an_expr (program (Reading.first c)) ts e us
 first_prefix c e [] us h d = absurd h
 first_prefix c e (tok (w.name x) s ∷ ts) us h d = does_look (does_last d)
 first_prefix c e (tok (key w.open_paren) s ∷ ts) us h d = does_look (does_last d)
 first_prefix c e (tok v s ∷ ts) us h d = absurd h
 
-first_unary : (c : Counts) (o : UnOp) (v : Word) (s : Spot) (e : Expr) (m us : List Tok) → IsUnary o v → Does an_expr (program (Reading.expr unary_level (down c))) m e us
+first_unary : (c : Counts) (o : UnOp) (v : Word) (s : Spot) (e : Expr) (m us : List Tok) → IsUnary o v
+    → Does an_expr (program (Reading.expr unary_level (down c))) m e us
     → Does an_expr (program (Reading.first c)) (tok v s ∷ m) (unary s.line o e) us
 first_unary c not_ (key w.not_) s e m us h d = does_look (does_take (does_then d does_give))
 first_unary c not_ v s e m us h d = absurd h
@@ -116,19 +125,22 @@ first_unary c length_of v s e m us h d = absurd h
 first_unary c negate (w.op sub) s e m us h d = does_look (does_take (does_then d does_give))
 first_unary c negate v s e m us h d = absurd h
 
-more_binary : (p : ℕ) (c : Counts) (o : BinOp) (a b : Expr) (s : Spot) (m us : List Tok) (v : Expr) (vs : List Tok) → p ≤ level o → Does an_expr (program (Reading.expr (right_level o) (down c))) m b us
+more_binary : (p : ℕ) (c : Counts) (o : BinOp) (a b : Expr) (s : Spot) (m us : List Tok) (v : Expr) (vs : List Tok) → p ≤ level o
+    → Does an_expr (program (Reading.expr (right_level o) (down c))) m b us
     → Does an_expr (program (Reading.more p c (binary s.line o a b))) us v vs → Does an_expr (program (Reading.more p c a)) (tok (w.op o) s ∷ m) v vs
 more_binary p c o a b s m us v vs h d f = does_look (rw (leb_true p (level o) h) (does_take (does_then d (does_last f))))
 
 -- a call's arguments open as one of its suffixes
-args_open : (k : Place) (c : Counts) (a v : Expr) (l : ℕ) (es : Exprs) (m us vs : List Tok) → Args l es m us → Does an_expr (Reading.called k c a) m v vs
+args_open : (k : Place) (c : Counts) (a v : Expr) (l : ℕ) (es : Exprs) (m us vs : List Tok) → Args l es m us
+    → Does an_expr (Reading.called k c a) m v vs
     → Does an_expr (program (Reading.suffixes k c a)) m v vs
 args_open k c a v l es m us vs g.no_args d = does_look d
 args_open k c a v l es m us vs (g.list_args e) d = does_look d
 args_open k c a v l es m us vs (g.table_args e) d = does_look d
 args_open k c a v l es m us vs g.str_args d = does_look d
 
-paren_list : (l : ℕ) (c : Counts) (es : Exprs) (s : Spot) (m us : List Tok) → StartsExp (word_of m) → Does some_exprs (program (Reading.exprs c)) m es (tok (key w.close_paren) s ∷ us)
+paren_list : (l : ℕ) (c : Counts) (es : Exprs) (s : Spot) (m us : List Tok) → StartsExp (word_of m)
+    → Does some_exprs (program (Reading.exprs c)) m es (tok (key w.close_paren) s ∷ us)
     → Does an_args (program (Reading.paren_args l c)) m (l, es) us
 paren_list l c es s [] us h d = absurd h
 paren_list l c es s (tok (key w.close_paren) s2 ∷ m) us h d = absurd h
@@ -141,7 +153,8 @@ exprs_end c (tok v s ∷ us) h = does_look does_give
 
 -- ---- fields
 
-separate : (c : Counts) (v : Word) (s : Spot) (fs : Fields) (m us : List Tok) → g.IsSeparator v → Does some_fields (program (Reading.fields c)) m fs us
+separate : (c : Counts) (v : Word) (s : Spot) (fs : Fields) (m us : List Tok) → g.IsSeparator v
+    → Does some_fields (program (Reading.fields c)) m fs us
     → Does some_fields (program (Reading.more_fields c)) (tok v s ∷ m) fs us
 separate c (key w.comma) s fs m us h d = does_look (does_take (does_last d))
 separate c (key w.semicolon) s fs m us h d = does_look (does_take (does_last d))
@@ -156,7 +169,8 @@ field_word (key w.assign) h = h
 field_word v h = tt
 
 -- an expression that is a name alone, so far, doesn't have `=` behind it, where none follows the expression
-not_assigned : (c : Counts) (x : Bytes) (at : Spot) (ts us vs : List Tok) (a e : Expr) (l m : Reading.Needs) → Comes an_expr (program (Reading.suffixes in_expr c (name at.line x))) ts a us l
+not_assigned : (c : Counts) (x : Bytes) (at : Spot) (ts us vs : List Tok) (a e : Expr) (l m : Reading.Needs)
+    → Comes an_expr (program (Reading.suffixes in_expr c (name at.line x))) ts a us l
     → Comes an_expr (program (Reading.more 0 c a)) us e vs m → FollowsField (word_of vs) → NotAssign (word_of ts)
 not_assigned c x at [] us vs a e l m d f h = tt
 not_assigned c x at (tok (key w.assign) s ∷ ts) us vs a e l m (looks gives) (looks gives) h = h
@@ -188,7 +202,8 @@ item c (tok v s ∷ ts) m us e fs h f d rest = does_look (does_then d (does_then
 
 -- ---- functions and statements
 
-body_given : (l : ℕ) (hidden xs : List Bytes) (has_dots : Bool) (b : Block) (s s2 : Spot) (m n us : List Tok) (c : Counts) → Params xs has_dots m n
+body_given : (l : ℕ) (hidden xs : List Bytes) (has_dots : Bool) (b : Block) (s s2 : Spot) (m n us : List Tok) (c : Counts)
+    → Params xs has_dots m n
     → Does a_block (program (Reading.block (Reading.in_body (hidden ++ xs) has_dots c))) n b (tok (key w.end_) s2 ∷ us)
     → Does a_func (program (Reading.func_body l hidden c)) (tok (key w.open_paren) s ∷ m) (func l (hidden ++ xs) has_dots b) us
 body_given l hidden xs has_dots b s s2 m n us c p d =
@@ -203,7 +218,8 @@ block_ends c (tok (key w.until) s ∷ us) h = does_look does_give
 block_ends c (tok w.the_end s ∷ us) h = does_look does_give
 block_ends c (tok v s ∷ us) h = absurd h
 
-block_goes_on : (c : Counts) (b : Block) (ts us : List Tok) → StartsStat (word_of ts) → Does a_block (Reading.with_stat c) ts b us → Does a_block (program (Reading.block c)) ts b us
+block_goes_on : (c : Counts) (b : Block) (ts us : List Tok) → StartsStat (word_of ts) → Does a_block (Reading.with_stat c) ts b us
+    → Does a_block (program (Reading.block c)) ts b us
 block_goes_on c b [] us h d = absurd h
 block_goes_on c b (tok (w.name x) s ∷ ts) us h d = does_look d
 block_goes_on c b (tok (key w.open_paren) s ∷ ts) us h d = does_look d
@@ -226,7 +242,8 @@ semi_do m n g.no_semi h = none m h
     none (tok v s ∷ m) h = does_look does_give
 semi_do m n g.a_semi h = does_look (does_take does_give)
 
-return_alone : (l : ℕ) (c : Counts) (us : List Tok) → FollowsLast (word_of us) → Does a_stat (program (Reading.return_rest l c)) us (return_stat l no_exprs) us
+return_alone : (l : ℕ) (c : Counts) (us : List Tok) → FollowsLast (word_of us)
+    → Does a_stat (program (Reading.return_rest l c)) us (return_stat l no_exprs) us
 return_alone l c [] h = does_look does_give
 return_alone l c (tok (key w.end_) s ∷ us) h = does_look does_give
 return_alone l c (tok (key w.else_) s ∷ us) h = does_look does_give
@@ -236,7 +253,8 @@ return_alone l c (tok (key w.semicolon) s ∷ us) h = does_look does_give
 return_alone l c (tok w.the_end s ∷ us) h = does_look does_give
 return_alone l c (tok v s ∷ us) h = absurd h
 
-return_with : (l : ℕ) (c : Counts) (es : Exprs) (ts us : List Tok) → StartsExp (word_of ts) → Does some_exprs (program (Reading.exprs c)) ts es us
+return_with : (l : ℕ) (c : Counts) (es : Exprs) (ts us : List Tok) → StartsExp (word_of ts)
+    → Does some_exprs (program (Reading.exprs c)) ts es us
     → Does a_stat (program (Reading.return_rest l c)) ts (return_stat l es) us
 return_with l c es [] us h d = absurd h
 return_with l c es (tok (key w.end_) s ∷ ts) us h d = absurd h
@@ -255,27 +273,32 @@ prefix_first c st (tok (w.name x) s ∷ ts) us h d = does_look d
 prefix_first c st (tok (key w.open_paren) s ∷ ts) us h d = does_look d
 prefix_first c st (tok v s ∷ ts) us h d = absurd h
 
-var_stat : (l : ℕ) (c : Counts) (e : Expr) (st : Stat) (ts us ms ns : List Tok) → Var e ts us → Does a_stat (Reading.prefix_stat_of l c e Reading.a_var) ms st ns
+var_stat : (l : ℕ) (c : Counts) (e : Expr) (st : Stat) (ts us ms ns : List Tok) → Var e ts us
+    → Does a_stat (Reading.prefix_stat_of l c e Reading.a_var) ms st ns
     → Does a_stat (program (Reading.prefix_stat l c e)) ms st ns
 var_stat l c e st ts us ms ns g.name_var d = d
 var_stat l c e st ts us ms ns (g.index_var f h) d = d
 var_stat l c e st ts us ms ns (g.dot_var f) d = d
 
-var_target : (c : Counts) (e : Expr) (es : Exprs) (ts us ms ns : List Tok) → Var e ts us → Does Reading.some_targets (Reading.target_of c e Reading.a_var) ms es ns
+var_target : (c : Counts) (e : Expr) (es : Exprs) (ts us ms ns : List Tok) → Var e ts us
+    → Does Reading.some_targets (Reading.target_of c e Reading.a_var) ms es ns
     → Does Reading.some_targets (Reading.target_of c e (Reading.shape e)) ms es ns
 var_target c e es ts us ms ns g.name_var d = d
 var_target c e es ts us ms ns (g.index_var f h) d = d
 var_target c e es ts us ms ns (g.dot_var f) d = d
 
-call_alone : (l : ℕ) (c : Counts) (e : Expr) (ts us ms : List Tok) → Call e ts us → Does a_stat (program (Reading.prefix_stat l c e)) ms (call_stat l e) ms
+call_alone : (l : ℕ) (c : Counts) (e : Expr) (ts us ms : List Tok) → Call e ts us
+    → Does a_stat (program (Reading.prefix_stat l c e)) ms (call_stat l e) ms
 call_alone l c e ts us ms (g.plain_call d f) = does_give
 call_alone l c e ts us ms (g.method_call d f) = does_give
 
-targets_end : (c : Counts) (s : Spot) (us : List Tok) → Does Reading.some_targets (program (Reading.more_targets c)) (tok (key w.assign) s ∷ us) no_exprs (tok (key w.assign) s ∷ us)
+targets_end : (c : Counts) (s : Spot) (us : List Tok)
+    → Does Reading.some_targets (program (Reading.more_targets c)) (tok (key w.assign) s ∷ us) no_exprs (tok (key w.assign) s ∷ us)
 targets_end c s us = does_look does_give
 
 -- the names of a loop
-loop_names : (l : ℕ) (c : Counts) (xs : List Bytes) (es : Exprs) (b : Block) (s s2 s3 : Spot) (m n q us : List Tok) → NameList xs m (tok (key w.in_) s ∷ n)
+loop_names : (l : ℕ) (c : Counts) (xs : List Bytes) (es : Exprs) (b : Block) (s s2 s3 : Spot) (m n q us : List Tok)
+    → NameList xs m (tok (key w.in_) s ∷ n)
     → Does some_exprs (program (Reading.exprs c)) n es (tok (key w.do_) s2 ∷ q) → Does a_block (program (Reading.block (Reading.in_loop (length xs) c))) q b (tok (key w.end_) s3 ∷ us)
     → Does a_stat (expect_name (Reading.many (suc (c Attributes.locals))) (λ x at. then (Reading.for_rest l x c) give)) m (gen_for l xs es b) us
 loop_names l c xs es b s s2 s3 m n q us g.one_name d f =
@@ -284,7 +307,8 @@ loop_names l c xs es b s s2 s3 m n q us (g.name_and {xs = ys} {s' = s4} {m = r} 
     does_expect_name (does_last (does_look (does_then (names_more _ s4 ys r _ h tt) (does_expect (does_then d (does_then (does_expect (does_then f (does_expect does_give))) does_give))))))
 
 -- the names of a local statement
-local_names : (l : ℕ) (c : Counts) (xs : List Bytes) (es : Exprs) (m n us : List Tok) → NameList xs m n → NotComma (word_of n) → Does some_exprs (program (Reading.init c)) n es us
+local_names : (l : ℕ) (c : Counts) (xs : List Bytes) (es : Exprs) (m n us : List Tok) → NameList xs m n → NotComma (word_of n)
+    → Does some_exprs (program (Reading.init c)) n es us
     → Does a_stat (program (Reading.local_rest l c)) m (local l xs es) us
 local_names l c xs es m n us g.one_name h d = does_look (does_expect_name (does_then (names_end _ _ h) (does_then d does_give)))
 local_names l c xs es m n us (g.name_and {xs = ys} {s' = s2} {m = r} f) h d = does_look (does_expect_name (does_then (names_more _ s2 ys r n f h) (does_then d does_give)))
@@ -326,14 +350,16 @@ mutual
   exp_leads q e ts us p c (g.unary_exp {o = o} {v = v} {e = f} {s = s} {m = m} l u d) h t =
       operand (first_unary c o v s f m us u (exp_leads unary_level f m us unary_level (down c) d (le_refl unary_level) t.1 f us (more_gives unary_level (down c) f us t.0)))
 
-  prefix_leads : (e : Expr) (ts us : List Tok) (k : Place) (c : Counts) → Prefix e ts us → Leads an_expr (program (Reading.prefix k c)) ts (program (Reading.suffixes k c e)) us
+  prefix_leads : (e : Expr) (ts us : List Tok) (k : Place) (c : Counts) → Prefix e ts us
+      → Leads an_expr (program (Reading.prefix k c)) ts (program (Reading.suffixes k c e)) us
   prefix_leads e ts us k c (g.var_prefix d) = var_leads e ts us k c d
   prefix_leads e ts us k c (g.call_prefix d) = call_leads e ts us k c d
   prefix_leads e ts us k c (g.paren_prefix {e = f} {s' = s2} {m = m} d) = λ v vs r.
       let c2 = down (Reading.held (Reading.unfinished k Reading.a_paren) c) in
       does_look (does_take (does_then (exp_from f m (tok (key w.close_paren) s2 ∷ us) c2 d tt (exp_leads 0 f m (tok (key w.close_paren) s2 ∷ us) 0 c2 d (le_refl 0))) (does_expect (does_last r))))
 
-  var_leads : (e : Expr) (ts us : List Tok) (k : Place) (c : Counts) → Var e ts us → Leads an_expr (program (Reading.prefix k c)) ts (program (Reading.suffixes k c e)) us
+  var_leads : (e : Expr) (ts us : List Tok) (k : Place) (c : Counts) → Var e ts us
+      → Leads an_expr (program (Reading.prefix k c)) ts (program (Reading.suffixes k c e)) us
   var_leads e ts us k c g.name_var = λ v vs r. does_look (does_take (does_last r))
   var_leads e ts us k c (g.index_var {a = a} {e = f} {s = s} {s' = s2} {m = m} d x) = λ v vs r.
       prefix_leads a ts (tok (key w.open_bracket) s ∷ m) k c d v vs
@@ -343,28 +369,32 @@ mutual
   var_leads e ts us k c (g.dot_var {a = a} {x = x} {s = s} {s' = s2} d) = λ v vs r.
       prefix_leads a ts (tok (key w.dot) s ∷ tok (w.name x) s2 ∷ us) k c d v vs (does_look (does_take (does_expect_name (does_last r))))
 
-  call_leads : (e : Expr) (ts us : List Tok) (k : Place) (c : Counts) → Call e ts us → Leads an_expr (program (Reading.prefix k c)) ts (program (Reading.suffixes k c e)) us
+  call_leads : (e : Expr) (ts us : List Tok) (k : Place) (c : Counts) → Call e ts us
+      → Leads an_expr (program (Reading.prefix k c)) ts (program (Reading.suffixes k c e)) us
   call_leads e ts us k c (g.plain_call {a = a} {l = l} {es = es} {m = m} d x) = λ v vs r.
       prefix_leads a ts m k c d v vs (args_open k c a v l es m us vs x (does_then (args_do l es m us _ _ x) (does_last r)))
   call_leads e ts us k c (g.method_call {a = a} {x = x} {l = l} {es = es} {s = s} {s' = s2} {m = m} d y) = λ v vs r.
       prefix_leads a ts (tok (key w.colon) s ∷ tok (w.name x) s2 ∷ m) k c d v vs
       (does_look (does_take (does_expect_name (does_then (args_do l es m us _ _ y) (does_last r)))))
 
-  args_do : (l : ℕ) (es : Exprs) (m us : List Tok) (n : ℕ) (c : Counts) → Args l es m us → Does an_args (program (Reading.args n c)) m (l, es) us
+  args_do : (l : ℕ) (es : Exprs) (m us : List Tok) (n : ℕ) (c : Counts) → Args l es m us
+      → Does an_args (program (Reading.args n c)) m (l, es) us
   args_do l es m us n c g.no_args = does_look (does_take (does_last (does_look (does_take does_give))))
   args_do l es m us n c (g.list_args {s = s} {s' = s2} {m = r} d) =
       does_look (does_take (does_last (paren_list (call_line s) c es s2 r us (list_starts es r _ d) (exprs_do es r (tok (key w.close_paren) s2 ∷ us) c d tt tt))))
   args_do l es m us n c (g.table_args {fs = fs} {s' = s2} {m = r} d) = does_look (does_take (does_then (fields_do fs r s2 us (down c) d) does_give))
   args_do l es m us n c g.str_args = does_look (does_take does_give)
 
-  exprs_do : (es : Exprs) (ts us : List Tok) (c : Counts) → ExpList es ts us → Stops (word_of us) → NotComma (word_of us) → Does some_exprs (program (Reading.exprs c)) ts es us
+  exprs_do : (es : Exprs) (ts us : List Tok) (c : Counts) → ExpList es ts us → Stops (word_of us) → NotComma (word_of us)
+      → Does some_exprs (program (Reading.exprs c)) ts es us
   exprs_do es ts us c (g.one_exp {e = e} d) h n =
       does_then (exp_from e ts us c d h (exp_leads 0 e ts us 0 c d (le_refl 0))) (does_then (exprs_end c us n) does_give)
   exprs_do es ts us c (g.exp_and {e = e} {es = fs} {s = s} {m = m} d f) h n =
       does_then (exp_from e ts (tok (key w.comma) s ∷ m) c d tt (exp_leads 0 e ts (tok (key w.comma) s ∷ m) 0 c d (le_refl 0)))
       (does_then (does_look (does_take (does_last (exprs_do fs m us c f h n)))) does_give)
 
-  fields_do : (fs : Fields) (m : List Tok) (at : Spot) (us : List Tok) (c : Counts) → FieldList fs m (tok (key w.close_brace) at ∷ us) → Does some_fields (program (Reading.fields c)) m fs us
+  fields_do : (fs : Fields) (m : List Tok) (at : Spot) (us : List Tok) (c : Counts)
+      → FieldList fs m (tok (key w.close_brace) at ∷ us) → Does some_fields (program (Reading.fields c)) m fs us
   fields_do fs m at us c g.no_field = does_look (does_take does_give)
   fields_do fs m at us c (g.item_field {e = e} {fs = gs} {m = n} d f) =
       let follows = fields_follow gs n (tok (key w.close_brace) at ∷ us) f tt in
@@ -383,11 +413,13 @@ mutual
       (exp_from e r n c x stops (exp_leads 0 e r n 0 c x (le_refl 0)))
       (does_then (more_fields_do gs n at us c f) does_give))))))
 
-  more_fields_do : (fs : Fields) (m : List Tok) (at : Spot) (us : List Tok) (c : Counts) → MoreFields fs m (tok (key w.close_brace) at ∷ us) → Does some_fields (program (Reading.more_fields c)) m fs us
+  more_fields_do : (fs : Fields) (m : List Tok) (at : Spot) (us : List Tok) (c : Counts)
+      → MoreFields fs m (tok (key w.close_brace) at ∷ us) → Does some_fields (program (Reading.more_fields c)) m fs us
   more_fields_do fs m at us c g.no_more = does_look (does_take does_give)
   more_fields_do fs m at us c (g.separated {v = v} {s = s} {m = n} i d) = separate c v s fs n us i (fields_do fs n at us c d)
 
-  stats_do : (b : Block) (ts us : List Tok) (c : Counts) → Stats b ts us → EndsBlock (word_of us) → Does a_block (program (Reading.block c)) ts b us
+  stats_do : (b : Block) (ts us : List Tok) (c : Counts) → Stats b ts us → EndsBlock (word_of us)
+      → Does a_block (program (Reading.block c)) ts b us
   stats_do b ts us c g.no_stat h = block_ends c us h
   stats_do b ts us c (g.a_stat {st = st} {b = b2} {m = m} {n = n} d s f) h =
       let starts = block_starts b2 n us f h in
@@ -395,7 +427,8 @@ mutual
       (does_then (stat_do st ts m c d (semi_follows m n s starts)) (does_then (semi_do m n s starts) (does_then (stats_do b2 n us (Reading.behind st c) f h) does_give)))
   stats_do b ts us c (g.last_stat {st = st} {m = m} d s) h = last_do st ts m us c d s h
 
-  targets_do : (es : Exprs) (m : List Tok) (at at2 : Spot) (us : List Tok) (c : Counts) → VarList es m (tok (key w.assign) at2 ∷ us)
+  targets_do : (es : Exprs) (m : List Tok) (at at2 : Spot) (us : List Tok) (c : Counts)
+      → VarList es m (tok (key w.assign) at2 ∷ us)
       → Does Reading.some_targets (program (Reading.more_targets c)) (tok (key w.comma) at ∷ m) es (tok (key w.assign) at2 ∷ us)
   targets_do es m at at2 us c (g.one_var {e = e} d) =
       does_look (does_take (does_then (var_leads e m (tok (key w.assign) at2 ∷ us) targeted c d e _ (suffixes_give targeted c e (tok (key w.assign) at2 ∷ us) tt))
@@ -404,7 +437,8 @@ mutual
       does_look (does_take (does_then (var_leads e m (tok (key w.comma) s ∷ n) targeted c d e _ (suffixes_give targeted c e (tok (key w.comma) s ∷ n) tt))
       (var_target c e _ m _ _ _ d (does_then (targets_do fs n s at2 us c f) does_give))))
 
-  stat_do : (st : Stat) (ts us : List Tok) (c : Counts) → StatOf st ts us → FollowsStat (word_of us) → Does a_stat (program (Reading.stat c)) ts st us
+  stat_do : (st : Stat) (ts us : List Tok) (c : Counts) → StatOf st ts us → FollowsStat (word_of us)
+      → Does a_stat (program (Reading.stat c)) ts st us
   stat_do st ts us c (g.assign_of {vs = vs} {s = at} {m = m} (g.one_var {e = e} d) f) h =
       prefix_first c _ ts us (var_starts e ts _ d)
       (does_then (var_leads e ts (tok (key w.assign) at ∷ m) leading c d e _ (suffixes_give leading c e (tok (key w.assign) at ∷ m) tt))
@@ -449,7 +483,8 @@ mutual
       does_look (does_take (does_last (local_names s.line c xs es m (tok (key w.assign) s2 ∷ n) us d tt
       (does_look (does_take (does_last (exprs_do es n us c f (follows_stop (word_of us) h) (follows_comma (word_of us) h))))))))
 
-  last_do : (st : Stat) (ts m us : List Tok) (c : Counts) → LastOf st ts m → Semi m us → EndsBlock (word_of us) → Does a_block (program (Reading.block c)) ts (stat_and st no_stats) us
+  last_do : (st : Stat) (ts m us : List Tok) (c : Counts) → LastOf st ts m → Semi m us → EndsBlock (word_of us)
+      → Does a_block (program (Reading.block c)) ts (stat_and st no_stats) us
   last_do st ts m us c (g.return_of {s = at}) s h =
       does_look (does_then (does_look (does_take (does_last (return_alone at.line c m (semi_last m us s h))))) (does_then (semi_do m us s (block_starts no_stats us us g.no_stat h)) does_give))
   last_do st ts m us c (g.return_with_of {es = es} {s = at} {m = n} d) s h =
@@ -465,7 +500,8 @@ mutual
       does_then (exp_from e m (tok (key w.then_) s ∷ n) c d tt (exp_leads 0 e m (tok (key w.then_) s ∷ n) 0 c d (le_refl 0)))
       (does_expect (does_then (stats_do b n q (down c) f (arms_end others q us r)) (does_then (more_arms_do others q us c r) does_give)))
 
-  more_arms_do : (rest : Arms) (m us : List Tok) (c : Counts) → MoreArms rest m us → Does some_arms (program (Reading.more_arms c)) m rest us
+  more_arms_do : (rest : Arms) (m us : List Tok) (c : Counts) → MoreArms rest m us
+      → Does some_arms (program (Reading.more_arms c)) m rest us
   more_arms_do rest m us c (g.elseif_of {m = n} d) = does_look (does_take (does_last (arms_do rest n us c d)))
   more_arms_do rest m us c (g.else_of {b = b} {s' = s2} {m = n} d) = does_look (does_take (does_then (stats_do b n (tok (key w.end_) s2 ∷ us) (down c) d tt) (does_expect does_give)))
   more_arms_do rest m us c g.end_of = does_look (does_take does_give)

@@ -20,21 +20,28 @@ OnlySpells vs e =
 
 -- `x^-y^z` is `x^(-(y^z))`: the exponent may begin with a unary operator, which binds looser than the `^` behind it
 abbrev pub PowerOfMinus : Type 0
-PowerOfMinus = (x y z : ℤ) → OnlySpells (w.number x ∷ w.op pow ∷ w.op sub ∷ w.number y ∷ w.op pow ∷ w.number z ∷ [])
+PowerOfMinus =
+    (x y z : ℤ) → OnlySpells
+    (w.number x ∷ w.op pow ∷ w.op sub ∷ w.number y ∷ w.op pow ∷ w.number z ∷ [])
     (binary 1 pow (number 1 x) (unary 1 negate (binary 1 pow (number 1 y) (number 1 z))))
 
 -- `-x^z` is `-(x^z)`
 abbrev pub MinusOfPower : Type 0
-MinusOfPower = (x z : ℤ) → OnlySpells (w.op sub ∷ w.number x ∷ w.op pow ∷ w.number z ∷ []) (unary 1 negate (binary 1 pow (number 1 x) (number 1 z)))
+MinusOfPower =
+    (x z : ℤ) → OnlySpells
+    (w.op sub ∷ w.number x ∷ w.op pow ∷ w.number z ∷ [])
+    (unary 1 negate (binary 1 pow (number 1 x) (number 1 z)))
 
 -- `a..b..c` is `a..(b..c)`
 abbrev pub ConcatToTheRight : Type 0
-ConcatToTheRight = (a b c : Bytes) → OnlySpells (w.name a ∷ w.op concat ∷ w.name b ∷ w.op concat ∷ w.name c ∷ [])
+ConcatToTheRight =
+    (a b c : Bytes) → OnlySpells (w.name a ∷ w.op concat ∷ w.name b ∷ w.op concat ∷ w.name c ∷ [])
     (binary 1 concat (name 1 a) (binary 1 concat (name 1 b) (name 1 c)))
 
 -- `a-b-c` is `(a-b)-c`
 abbrev pub MinusToTheLeft : Type 0
-MinusToTheLeft = (a b c : Bytes) → OnlySpells (w.name a ∷ w.op sub ∷ w.name b ∷ w.op sub ∷ w.name c ∷ [])
+MinusToTheLeft =
+    (a b c : Bytes) → OnlySpells (w.name a ∷ w.op sub ∷ w.name b ∷ w.op sub ∷ w.name c ∷ [])
     (binary 1 sub (binary 1 sub (name 1 a) (name 1 b)) (name 1 c))
 
 -- `not a == b` is `(not a) == b`

@@ -34,15 +34,21 @@ arms_of (suc n) a = arm_and (name 1 a) no_stats (arms_of n a)
 
 -- 199 times `1+` and `1` nest 200 deep, and 200 times nest 201 deep
 abbrev pub Sums : Type 0
-Sums = (z : ℤ) → (most_chunk nodes (returns (sum 199 z)) ≡ 200) × (most_chunk nodes (returns (sum 200 z)) ≡ 201)
+Sums =
+    (z : ℤ) → (most_chunk nodes (returns (sum 199 z)) ≡ 200)
+    × (most_chunk nodes (returns (sum 200 z)) ≡ 201)
 
 -- 200 parentheses around `1` nest 201 deep
 abbrev pub Parens : Type 0
-Parens = (z : ℤ) → (most_chunk nodes (returns (in_parens 199 z)) ≡ 200) × (most_chunk nodes (returns (in_parens 200 z)) ≡ 201)
+Parens =
+    (z : ℤ) → (most_chunk nodes (returns (in_parens 199 z)) ≡ 200)
+    × (most_chunk nodes (returns (in_parens 200 z)) ≡ 201)
 
 -- a hidden local counts too
 abbrev pub Locals : Type 0
-Locals = (a : Bytes) → (most_chunk locals (locals_of 200 a) ≡ 200) × (most_chunk locals (locals_of 201 a) ≡ 201)
+Locals =
+    (a : Bytes) → (most_chunk locals (locals_of 200 a) ≡ 200)
+    × (most_chunk locals (locals_of 201 a) ≡ 201)
 
 -- a block is a node, the chunk's own is none
 abbrev pub Blocks : Type 0
@@ -59,4 +65,6 @@ Ends = (a : Bytes) → (most_chunk locals (stat_and (do_block 1 (locals_of 3 a))
 
 -- a `break` outside of a loop, and inside of one
 abbrev pub Breaks : Type 0
-Breaks = (a : Bytes) → (most_chunk breaks (stat_and (break_stat 1) no_stats) ≡ 1) × (most_chunk breaks (stat_and (while_loop 1 (name 1 a) (stat_and (break_stat 1) no_stats)) no_stats) ≡ 0)
+Breaks =
+    (a : Bytes) → (most_chunk breaks (stat_and (break_stat 1) no_stats) ≡ 1)
+    × (most_chunk breaks (stat_and (while_loop 1 (name 1 a) (stat_and (break_stat 1) no_stats)) no_stats) ≡ 0)
