@@ -61,7 +61,8 @@ mutual
   raised_arms n (arm_and e b xs) = let x = raised_block (suc n) b in let y = raised_block 1 b in let z = raised n e in let v = raised_arms n xs in omega (arith, x, y, z, v)
 
 -- the left operand of an operator, or what a suffix follows, is pushed one down
-pub pushed : (x : Limit) (c : Counts) (a : Expr) → max (most x (c x) a) (deep (suc (c nodes) + height a) x) ≡ most x (under x (c x)) a
+pub pushed : (x : Limit) (c : Counts) (a : Expr)
+    → max (most x (c x) a) (deep (suc (c nodes) + height a) x) ≡ most x (under x (c x)) a
 pushed breaks c a = omega arith
 pushed varargs c a = omega arith
 pushed nodes c a = let x = raised (c nodes) a in let y = raised (suc (c nodes)) a in omega (arith, x, y)

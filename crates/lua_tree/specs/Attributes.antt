@@ -90,8 +90,12 @@ abbrev mutual
   most x n (function line f) = max (node x n) (most_func x (under x n) f)
   most x n (name line bytes) = node x n
   most x n (index line a e) = max (node x n) (max (most x (under x n) a) (most x (under x n) e))
-  most x n (call line a es) = max (max (node x n) (at_call x line)) (max (most x (under x n) a) (most_exprs x (under x n) es))
-  most x n (method line a m es) = max (max (node x n) (at_call x line)) (max (most x (under x n) a) (most_exprs x (under x n) es))
+  most x n (call line a es) =
+      max (max (node x n) (at_call x line))
+      (max (most x (under x n) a) (most_exprs x (under x n) es))
+  most x n (method line a m es) =
+      max (max (node x n) (at_call x line))
+      (max (most x (under x n) a) (most_exprs x (under x n) es))
   most x n (table line fs) = max (node x n) (most_fields x (under x n) fs)
   most x n (unary line o e) = max (node x n) (most x (under x n) e)
   most x n (binary line o a b) = max (node x n) (max (most x (under x n) a) (most x (under x n) b))
@@ -107,7 +111,8 @@ abbrev mutual
   most_fields x n (keyed_and k e fs) = max (max (most x n k) (most x n e)) (most_fields x n fs)
 
   pub most_func : Limit → ℕ → Func → ℕ
-  most_func x n (func line params has_dots b) = max (node x n) (most_block x (inside x params has_dots n) b)
+  most_func x n (func line params has_dots b) =
+      max (node x n) (most_block x (inside x params has_dots n) b)
 
   pub most_block : Limit → ℕ → Block → ℕ
   most_block x n no_stats = at_end x n
@@ -118,12 +123,18 @@ abbrev mutual
   most_stat x n (local line names es) = most_exprs x n es
   most_stat x n (call_stat line e) = most x n e
   most_stat x n (do_block line b) = max (node x n) (most_block x (under x n) b)
-  most_stat x n (while_loop line e b) = max (most x n e) (max (node x n) (most_block x (looped x 0 n) b))
-  most_stat x n (repeat_loop line b e) = max (max (node x n) (most_block x (looped x 0 n) b)) (most x n e)
+  most_stat x n (while_loop line e b) =
+      max (most x n e) (max (node x n) (most_block x (looped x 0 n) b))
+  most_stat x n (repeat_loop line b e) =
+      max (max (node x n) (most_block x (looped x 0 n) b)) (most x n e)
   most_stat x n (if_stat line rest) = most_arms x n rest
-  most_stat x n (num_for line i a b c) = max (max (most x n a) (most x n b)) (max (node x n) (most_block x (looped x 1 n) c))
-  most_stat x n (num_for_by line i a b e c) = max (max (max (most x n a) (most x n b)) (most x n e)) (max (node x n) (most_block x (looped x 1 n) c))
-  most_stat x n (gen_for line names es c) = max (most_exprs x n es) (max (node x n) (most_block x (looped x (length names) n) c))
+  most_stat x n (num_for line i a b c) =
+      max (max (most x n a) (most x n b)) (max (node x n) (most_block x (looped x 1 n) c))
+  most_stat x n (num_for_by line i a b e c) =
+      max (max (max (most x n a) (most x n b)) (most x n e))
+      (max (node x n) (most_block x (looped x 1 n) c))
+  most_stat x n (gen_for line names es c) =
+      max (most_exprs x n es) (max (node x n) (most_block x (looped x (length names) n) c))
   most_stat x n (function_stat line e f) = max (most x n e) (most_func x n f)
   most_stat x n (local_function line i f) = most_func x n f
   most_stat x n (return_stat line es) = most_exprs x n es
@@ -132,7 +143,8 @@ abbrev mutual
   pub most_arms : Limit → ℕ → Arms → ℕ
   most_arms x n no_else = 0
   most_arms x n (else_block b) = max (node x n) (most_block x (under x n) b)
-  most_arms x n (arm_and e b rest) = max (max (most x n e) (max (node x n) (most_block x (under x n) b))) (most_arms x n rest)
+  most_arms x n (arm_and e b rest) =
+      max (max (most x n e) (max (node x n) (most_block x (under x n) b))) (most_arms x n rest)
 
 -- how many nodes there are, at most, on a way down an expression
 abbrev pub height : Expr → ℕ

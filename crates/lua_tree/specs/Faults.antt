@@ -27,11 +27,24 @@ abbrev pub At : Limits → Fault → List Tok → List Tok → Type 0
 At limit unexpected pre [] = (b : Block) → Spells b pre → ⊥
 At limit unexpected pre (t ∷ rest) = Begins (pre ++ t ∷ []) → ⊥
 At limit (over x) pre [] = ⊥
-At limit (over x) pre (tok v s ∷ rest) = Tells x v × Every pre (tok v s) (λ b. limit x < most_chunk x b)
+At limit (over x) pre (tok v s ∷ rest) =
+    Tells x v × Every pre (tok v s) (λ b. limit x < most_chunk x b)
 
 -- no fault stands at any of these tokens
 abbrev pub Clear : Limits → List Tok → Type 0
-Clear limit pre = (p : List Tok) (t : Tok) (q : List Tok) → pre ≡ p ++ t ∷ q → (x : Fault) → At limit x p (t ∷ q) → ⊥
+Clear limit pre =
+    (p : List Tok) (t : Tok) (q : List Tok) → pre ≡ p ++ t ∷
+    q
+    →
+    (x : Fault)
+    →
+    At
+    limit
+    x
+    p
+    (t ∷ q)
+    →
+    ⊥
 
 -- a fault's number, and that no fault of a lower number stands there
 abbrev pub number_of : Fault → ℕ

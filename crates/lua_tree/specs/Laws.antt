@@ -12,8 +12,23 @@ OneChunk = (ts : List Tok) (b c : Block) → Spells b ts → Spells c ts → b �
 
 -- what reading answers is exact, whatever the limits
 abbrev pub ReadingIsExact : Type 0
-ReadingIsExact = (limit : Limits) (ts : List Tok) (r : Answer Block) → ReadsChunk limit ts r → IsExact limit ts r
+ReadingIsExact =
+    (limit : Limits) (ts : List Tok) (r : Answer Block) → ReadsChunk limit ts r → IsExact limit ts r
 
 -- at most one answer is exact
 abbrev pub OneAnswer : Type 0
-OneAnswer = (limit : Limits) (ts : List Tok) (r r2 : Answer Block) → IsExact limit ts r → IsExact limit ts r2 → Agree r r2
+OneAnswer =
+    (limit : Limits) (ts : List Tok) (r r2 : Answer Block) →
+    IsExact
+    limit
+    ts
+    r
+    →
+    IsExact
+    limit
+    ts
+    r2
+    →
+    Agree
+    r
+    r2

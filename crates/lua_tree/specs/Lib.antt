@@ -5,3 +5,5 @@ pub mod Attributes
 pub mod Reading
 pub mod Faults
 pub mod Laws
+pub mod Precedence
+pub mod Rows

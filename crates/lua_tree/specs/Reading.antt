@@ -43,10 +43,11 @@ shape e = a_paren
 
 -- whether a suffix must follow there: a statement begins with no parentheses alone, a target is neither those nor a call
 abbrev pub unfinished : Place → Shape → Bool
-unfinished leading a_paren = true
+unfinished k a_var = false
 unfinished targeted a_call = true
-unfinished targeted a_paren = true
-unfinished k s = false
+unfinished k a_call = false
+unfinished in_expr a_paren = false
+unfinished k a_paren = true
 
 -- the rules; each is given what is counted where it begins
 pub data Rule : Sort → Type 0 where
@@ -177,11 +178,17 @@ first_of c (key w.false_) s = take (deep (suc (c nodes))) (give (false_ s.line))
 first_of c (w.number z) s = take (deep (suc (c nodes))) (give (number s.line z))
 first_of c (w.str x) s = take (deep (suc (c nodes))) (give (str s.line x))
 first_of c (key w.dots) s = take (for_dots c) (give (dots s.line))
-first_of c (key w.function_) s = take (deep (c nodes + 2)) (then (func_body s.line [] (down c)) (λ f. give (function s.line f)))
-first_of c (key w.not_) s = take (deep (c nodes + 2)) (then (expr unary_level (down c)) (λ e. give (unary s.line not_ e)))
-first_of c (key w.hash) s = take (deep (c nodes + 2)) (then (expr unary_level (down c)) (λ e. give (unary s.line length_of e)))
-first_of c (w.op sub) s = take (deep (c nodes + 2)) (then (expr unary_level (down c)) (λ e. give (unary s.line negate e)))
-first_of c (key w.open_brace) s = take (deep (suc (c nodes))) (then (fields (down c)) (λ fs. give (table s.line fs)))
+first_of c (key w.function_) s =
+    take (deep (c nodes + 2)) (then (func_body s.line [] (down c)) (λ f. give (function s.line f)))
+first_of c (key w.not_) s =
+    take (deep (c nodes + 2)) (then (expr unary_level (down c)) (λ e. give (unary s.line not_ e)))
+first_of c (key w.hash) s =
+    take (deep (c nodes + 2))
+    (then (expr unary_level (down c)) (λ e. give (unary s.line length_of e)))
+first_of c (w.op sub) s =
+    take (deep (c nodes + 2)) (then (expr unary_level (down c)) (λ e. give (unary s.line negate e)))
+first_of c (key w.open_brace) s =
+    take (deep (suc (c nodes))) (then (fields (down c)) (λ fs. give (table s.line fs)))
 first_of c v s = then (prefix in_expr c) give
 
 abbrev pub more_of : ℕ → Counts → Expr → Word → Spot → Prog an_expr
@@ -200,12 +207,16 @@ prefix_of k c v s = fail
 
 -- a call's arguments
 abbrev pub called : Place → Counts → Expr → Prog an_expr
-called k c a = then (args (suc (held (unfinished k a_call) c nodes) + height a) (down (held (unfinished k a_call) c))) (λ r. then (suffixes k c (call r.0 a r.1)) give)
+called k c a =
+    then (args (suc (held (unfinished k a_call) c nodes) + height a) (down (held (unfinished k a_call) c)))
+    (λ r. then (suffixes k c (call r.0 a r.1)) give)
 
 abbrev pub suffixes_of : Place → Counts → Expr → Word → Spot → Prog an_expr
 suffixes_of k c a (key w.open_bracket) s =
     take (deep (suc (c nodes) + height a)) (then (expr 0 (down c)) (λ e. expect w.close_bracket free (λ s'. then (suffixes k c (index s.line a e)) give)))
-suffixes_of k c a (key w.dot) s = take (deep (suc (c nodes) + height a)) (expect_name free (λ x s'. then (suffixes k c (index s.line a (str s'.line x))) give))
+suffixes_of k c a (key w.dot) s =
+    take (deep (suc (c nodes) + height a))
+    (expect_name free (λ x s'. then (suffixes k c (index s.line a (str s'.line x))) give))
 suffixes_of k c a (key w.colon) s =
     take (deep (suc (held (unfinished k a_call) c nodes) + height a))
     (expect_name free (λ x s'. then (args (suc (held (unfinished k a_call) c nodes) + height a) (down (held (unfinished k a_call) c))) (λ r. then (suffixes k c (method r.0 a x r.1)) give)))
@@ -215,8 +226,11 @@ suffixes_of k c a (w.str x) s = called k c a
 suffixes_of k c a v s = give a
 
 abbrev pub args_of : ℕ → Counts → Word → Spot → Prog an_args
-args_of n c (key w.open_paren) s = take (opening n (call_line s)) (then (paren_args (call_line s) c) give)
-args_of n c (key w.open_brace) s = take (opening n s.line) (then (fields (down c)) (λ fs. give (s.line, expr_and (table s.line fs) no_exprs)))
+args_of n c (key w.open_paren) s =
+    take (opening n (call_line s)) (then (paren_args (call_line s) c) give)
+args_of n c (key w.open_brace) s =
+    take (opening n s.line)
+    (then (fields (down c)) (λ fs. give (s.line, expr_and (table s.line fs) no_exprs)))
 args_of n c (w.str x) s = take (opening n s.line) (give (s.line, expr_and (str s.line x) no_exprs))
 args_of n c v s = fail
 
@@ -237,8 +251,11 @@ fields_of c (w.name x) s = take (deep (suc (c nodes))) (then (name_field s.line 
 fields_of c v s = then (expr 0 c) (λ e. then (more_fields c) (λ fs. give (item_and e fs)))
 
 abbrev pub name_field_of : ℕ → Bytes → Counts → Word → Spot → Prog some_fields
-name_field_of l x c (key w.assign) s = take free (then (expr 0 c) (λ e. then (more_fields c) (λ fs. give (keyed_and (str l x) e fs))))
-name_field_of l x c v s = then (suffixes in_expr c (name l x)) (λ a. then (more 0 c a) (λ e. then (more_fields c) (λ fs. give (item_and e fs))))
+name_field_of l x c (key w.assign) s =
+    take free (then (expr 0 c) (λ e. then (more_fields c) (λ fs. give (keyed_and (str l x) e fs))))
+name_field_of l x c v s =
+    then (suffixes in_expr c (name l x))
+    (λ a. then (more 0 c a) (λ e. then (more_fields c) (λ fs. give (item_and e fs))))
 
 abbrev pub more_fields_of : Counts → Word → Spot → Prog some_fields
 more_fields_of c (key w.comma) s = take free (then (fields c) give)
@@ -252,7 +269,8 @@ params_of n v s = then (next_param n) give
 
 abbrev pub next_param_of : ℕ → Word → Spot → Prog some_params
 next_param_of n (key w.dots) s = take free (expect w.close_paren free (λ s'. give ([], true)))
-next_param_of n (w.name x) s = take (many (suc n)) (then (more_params (suc n)) (λ r. give (x ∷ r.0, r.1)))
+next_param_of n (w.name x) s =
+    take (many (suc n)) (then (more_params (suc n)) (λ r. give (x ∷ r.0, r.1)))
 next_param_of n v s = fail
 
 abbrev pub more_params_of : ℕ → Word → Spot → Prog some_params
@@ -261,7 +279,8 @@ more_params_of n (key w.close_paren) s = take free (give ([], false))
 more_params_of n v s = fail
 
 abbrev pub more_names_of : ℕ → Word → Spot → Prog some_names
-more_names_of n (key w.comma) s = take free (expect_name (many (suc n)) (λ x s'. then (more_names (suc n)) (λ xs. give (x ∷ xs))))
+more_names_of n (key w.comma) s =
+    take free (expect_name (many (suc n)) (λ x s'. then (more_names (suc n)) (λ xs. give (x ∷ xs))))
 more_names_of n v s = give []
 
 abbrev pub semi_of : Word → Spot → Prog a_semi
@@ -272,7 +291,8 @@ abbrev pub with_last : Counts → Prog a_block
 with_last c = then (last c) (λ st. then semi (λ u. give (stat_and st no_stats)))
 
 abbrev pub with_stat : Counts → Prog a_block
-with_stat c = then (stat c) (λ st. then semi (λ u. then (block (behind st c)) (λ b. give (stat_and st b))))
+with_stat c =
+    then (stat c) (λ st. then semi (λ u. then (block (behind st c)) (λ b. give (stat_and st b))))
 
 abbrev pub block_of : Counts → Word → Spot → Prog a_block
 block_of c (key w.return_) s = with_last c
@@ -289,11 +309,21 @@ block_of c (key w.open_paren) s = with_stat c
 block_of c v s = give no_stats
 
 abbrev pub stat_of : Counts → Word → Spot → Prog a_stat
-stat_of c (key w.do_) s = take (deep (suc (c nodes))) (then (block (down c)) (λ b. expect w.end_ free (λ s'. give (do_block s.line b))))
-stat_of c (key w.while_) s = take (deep (suc (c nodes))) (then (expr 0 c) (λ e. then (loop_block 0 c) (λ b. give (while_loop s.line e b))))
-stat_of c (key w.repeat_) s = take (deep (suc (c nodes))) (then (block (in_loop 0 c)) (λ b. expect w.until free (λ s'. then (expr 0 c) (λ e. give (repeat_loop s.line b e)))))
-stat_of c (key w.if_) s = take (deep (suc (c nodes))) (then (arms c) (λ xs. give (if_stat s.line xs)))
-stat_of c (key w.for_) s = take (deep (suc (c nodes))) (expect_name (many (suc (c locals))) (λ x s'. then (for_rest s.line x c) give))
+stat_of c (key w.do_) s =
+    take (deep (suc (c nodes)))
+    (then (block (down c)) (λ b. expect w.end_ free (λ s'. give (do_block s.line b))))
+stat_of c (key w.while_) s =
+    take (deep (suc (c nodes)))
+    (then (expr 0 c) (λ e. then (loop_block 0 c) (λ b. give (while_loop s.line e b))))
+stat_of c (key w.repeat_) s =
+    take (deep (suc (c nodes)))
+    (then (block (in_loop 0 c))
+    (λ b. expect w.until free (λ s'. then (expr 0 c) (λ e. give (repeat_loop s.line b e)))))
+stat_of c (key w.if_) s =
+    take (deep (suc (c nodes))) (then (arms c) (λ xs. give (if_stat s.line xs)))
+stat_of c (key w.for_) s =
+    take (deep (suc (c nodes)))
+    (expect_name (many (suc (c locals))) (λ x s'. then (for_rest s.line x c) give))
 stat_of c (key w.function_) s =
     take (deep (suc (c nodes)))
     (expect_name free (λ x s'. then (func_name c (name s'.line x)) (λ t. then (func_body s.line t.1 c) (λ f. give (function_stat s.line t.0 f)))))
@@ -301,7 +331,9 @@ stat_of c (key w.local_) s = take free (then (local_rest s.line c) give)
 stat_of c v s = then (prefix leading c) (λ e. then (prefix_stat s.line c e) give)
 
 abbrev pub prefix_stat_of : ℕ → Counts → Expr → Shape → Prog a_stat
-prefix_stat_of l c e a_var = then (more_targets c) (λ es. expect w.assign free (λ s. then (exprs c) (λ vs. give (assign l (expr_and e es) vs))))
+prefix_stat_of l c e a_var =
+    then (more_targets c)
+    (λ es. expect w.assign free (λ s. then (exprs c) (λ vs. give (assign l (expr_and e es) vs))))
 prefix_stat_of l c e a_call = give (call_stat l e)
 prefix_stat_of l c e a_paren = fail
 
@@ -311,16 +343,21 @@ target_of c e a_call = fail
 target_of c e a_paren = fail
 
 abbrev pub more_targets_of : Counts → Word → Spot → Prog some_targets
-more_targets_of c (key w.comma) s = take free (then (prefix targeted c) (λ e. target_of c e (shape e)))
+more_targets_of c (key w.comma) s =
+    take free (then (prefix targeted c) (λ e. target_of c e (shape e)))
 more_targets_of c v s = give no_exprs
 
 abbrev pub for_rest_of : ℕ → Bytes → Counts → Word → Spot → Prog a_stat
-for_rest_of l x c (key w.assign) s = take free (then (expr 0 c) (λ a. expect w.comma free (λ s'. then (expr 0 c) (λ b. then (num_for_rest l x a b c) give))))
+for_rest_of l x c (key w.assign) s =
+    take free
+    (then (expr 0 c)
+    (λ a. expect w.comma free (λ s'. then (expr 0 c) (λ b. then (num_for_rest l x a b c) give))))
 for_rest_of l x c v s =
     then (more_names (suc (c locals))) (λ xs. expect w.in_ free (λ s'. then (exprs c) (λ es. then (loop_block (length (x ∷ xs)) c) (λ b. give (gen_for l (x ∷ xs) es b)))))
 
 abbrev pub num_for_rest_of : ℕ → Bytes → Expr → Expr → Counts → Word → Spot → Prog a_stat
-num_for_rest_of l x a b c (key w.comma) s = take free (then (expr 0 c) (λ e. then (loop_block 1 c) (λ d. give (num_for_by l x a b e d))))
+num_for_rest_of l x a b c (key w.comma) s =
+    take free (then (expr 0 c) (λ e. then (loop_block 1 c) (λ d. give (num_for_by l x a b e d))))
 num_for_rest_of l x a b c v s = then (loop_block 1 c) (λ d. give (num_for l x a b d))
 
 abbrev pub local_rest_of : ℕ → Counts → Word → Spot → Prog a_stat
@@ -349,13 +386,18 @@ return_rest_of l c v s = then (exprs c) (λ es. give (return_stat l es))
 
 abbrev pub more_arms_of : Counts → Word → Spot → Prog some_arms
 more_arms_of c (key w.elseif) s = take free (then (arms c) give)
-more_arms_of c (key w.else_) s = take free (then (block (down c)) (λ b. expect w.end_ free (λ s'. give (else_block b))))
+more_arms_of c (key w.else_) s =
+    take free (then (block (down c)) (λ b. expect w.end_ free (λ s'. give (else_block b))))
 more_arms_of c (key w.end_) s = take free (give no_else)
 more_arms_of c v s = fail
 
 abbrev pub func_name_of : Counts → Expr → Word → Spot → Prog a_target
-func_name_of c a (key w.dot) s = take (deep (suc (c nodes) + height a)) (expect_name free (λ x s'. then (func_name c (index s.line a (str s'.line x))) give))
-func_name_of c a (key w.colon) s = take (deep (suc (c nodes) + height a)) (expect_name (many 1) (λ x s'. give (index s.line a (str s'.line x), self ∷ [])))
+func_name_of c a (key w.dot) s =
+    take (deep (suc (c nodes) + height a))
+    (expect_name free (λ x s'. then (func_name c (index s.line a (str s'.line x))) give))
+func_name_of c a (key w.colon) s =
+    take (deep (suc (c nodes) + height a))
+    (expect_name (many 1) (λ x s'. give (index s.line a (str s'.line x), self ∷ [])))
 func_name_of c a v s = give (a, [])
 
 abbrev pub program : {s : Sort} → Rule s → Prog s
@@ -380,7 +422,8 @@ program (more_names n) = look (more_names_of n)
 program chunk = then (block at_chunk) at_last
 program (block c) = look (block_of c)
 program semi = look semi_of
-program (loop_block k c) = expect w.do_ free (λ s. then (block (in_loop k c)) (λ b. expect w.end_ free (λ s'. give b)))
+program (loop_block k c) =
+    expect w.do_ free (λ s. then (block (in_loop k c)) (λ b. expect w.end_ free (λ s'. give b)))
 program (stat c) = look (stat_of c)
 program (prefix_stat l c e) = prefix_stat_of l c e (shape e)
 program (for_rest l x c) = look (for_rest_of l x c)
@@ -390,7 +433,11 @@ program (last c) = look (last_of c)
 program (return_rest l c) = look (return_rest_of l c)
 program (more_targets c) = look (more_targets_of c)
 program (init c) = look (init_of c)
-program (arms c) = then (expr 0 c) (λ e. expect w.then_ free (λ s. then (block (down c)) (λ b. then (more_arms c) (λ xs. give (arm_and e b xs)))))
+program (arms c) =
+    then (expr 0 c)
+    (λ e.
+    expect w.then_ free
+    (λ s. then (block (down c)) (λ b. then (more_arms c) (λ xs. give (arm_and e b xs)))))
 program (more_arms c) = look (more_arms_of c)
 program (func_name c a) = look (func_name_of c a)
 
@@ -429,18 +476,26 @@ Passes limit n x = (limit x < n x) × ((y : Limit) → fault_number y < fault_nu
 pub data Reads (limit : Limits) : (s : Sort) → Prog s → List Tok → Answer (Value s) → Type 0 where
   gives : {s : Sort} {a : Value s} {ts : List Tok} → Reads limit s (give a) ts (got a ts)
   fails : {s : Sort} {ts : List Tok} → Reads limit s fail ts (stuck unexpected ts)
-  takes : {s : Sort} {n : Needs} {p : Prog s} {t : Tok} {ts : List Tok} {r : Answer (Value s)} → Keeps limit n → Reads limit s p ts r → Reads limit s (take n p) (t ∷ ts) r
-  passes : {s : Sort} {n : Needs} {p : Prog s} {x : Limit} {t : Tok} {ts : List Tok} → Passes limit n x → Reads limit s (take n p) (t ∷ ts) (stuck (over x) (t ∷ ts))
-  none_left : {s : Sort} {n : Needs} {p : Prog s} → Reads limit s (take n p) [] (stuck unexpected [])
-  looks : {s : Sort} {f : Word → Spot → Prog s} {ts : List Tok} {r : Answer (Value s)} → Reads limit s (f (word_of ts) (spot_of ts)) ts r → Reads limit s (look f) ts r
+  takes : {s : Sort} {n : Needs} {p : Prog s} {t : Tok} {ts : List Tok} {r : Answer (Value s)}
+      → Keeps limit n → Reads limit s p ts r → Reads limit s (take n p) (t ∷ ts) r
+  passes : {s : Sort} {n : Needs} {p : Prog s} {x : Limit} {t : Tok} {ts : List Tok}
+      → Passes limit n x → Reads limit s (take n p) (t ∷ ts) (stuck (over x) (t ∷ ts))
+  none_left : {s : Sort} {n : Needs} {p : Prog s}
+      → Reads limit s (take n p) [] (stuck unexpected [])
+  looks : {s : Sort} {f : Word → Spot → Prog s} {ts : List Tok} {r : Answer (Value s)}
+      → Reads limit s (f (word_of ts) (spot_of ts)) ts r → Reads limit s (look f) ts r
   expects : {s : Sort} {k : Key} {n : Needs} {f : Spot → Prog s} {at : Spot} {ts : List Tok} {r : Answer (Value s)}
       → Reads limit s (take n (f at)) (tok (key k) at ∷ ts) r → Reads limit s (expect k n f) (tok (key k) at ∷ ts) r
-  not_that : {s : Sort} {k : Key} {n : Needs} {f : Spot → Prog s} {ts : List Tok} → (word_of ts ≡ key k → ⊥) → Reads limit s (expect k n f) ts (stuck unexpected ts)
+  not_that : {s : Sort} {k : Key} {n : Needs} {f : Spot → Prog s} {ts : List Tok}
+      → (word_of ts ≡ key k → ⊥) → Reads limit s (expect k n f) ts (stuck unexpected ts)
   expects_name : {s : Sort} {n : Needs} {f : Bytes → Spot → Prog s} {x : Bytes} {at : Spot} {ts : List Tok} {r : Answer (Value s)}
       → Reads limit s (take n (f x at)) (tok (w.name x) at ∷ ts) r → Reads limit s (expect_name n f) (tok (w.name x) at ∷ ts) r
-  no_name : {s : Sort} {n : Needs} {f : Bytes → Spot → Prog s} {ts : List Tok} → ((x : Bytes) → word_of ts ≡ w.name x → ⊥) → Reads limit s (expect_name n f) ts (stuck unexpected ts)
+  no_name : {s : Sort} {n : Needs} {f : Bytes → Spot → Prog s} {ts : List Tok}
+      → ((x : Bytes) → word_of ts ≡ w.name x → ⊥)
+      → Reads limit s (expect_name n f) ts (stuck unexpected ts)
   is_last : {s : Sort} {a : Value s} → Reads limit s (at_last a) [] (got a [])
-  not_last : {s : Sort} {a : Value s} {t : Tok} {ts : List Tok} → Reads limit s (at_last a) (t ∷ ts) (stuck unexpected (t ∷ ts))
+  not_last : {s : Sort} {a : Value s} {t : Tok} {ts : List Tok}
+      → Reads limit s (at_last a) (t ∷ ts) (stuck unexpected (t ∷ ts))
   thens : {s q : Sort} {r : Rule q} {f : Value q → Prog s} {a : Value q} {ts us : List Tok} {b : Answer (Value s)}
       → Reads limit q (program r) ts (got a us) → Reads limit s (f a) us b → Reads limit s (then r f) ts b
   stops : {s q : Sort} {r : Rule q} {f : Value q → Prog s} {x : Fault} {ts us : List Tok}

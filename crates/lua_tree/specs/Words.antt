@@ -30,11 +30,17 @@ pub data Tok : Type 0 where
 abbrev pub nowhere : Spot
 nowhere = record { line = 1; start = 0; later = false }
 
--- the next word, and its spot
+-- a token's word and spot; those of the next token
+abbrev pub word_in : Tok → Word
+word_in (tok w s) = w
+
+abbrev pub spot_in : Tok → Spot
+spot_in (tok w s) = s
+
 abbrev pub word_of : List Tok → Word
 word_of [] = the_end
-word_of (tok w s ∷ ts) = w
+word_of (t ∷ ts) = word_in t
 
 abbrev pub spot_of : List Tok → Spot
 spot_of [] = nowhere
-spot_of (tok w s ∷ ts) = s
+spot_of (t ∷ ts) = spot_in t
