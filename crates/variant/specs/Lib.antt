@@ -1,0 +1,5 @@
+pub mod End
+pub mod Fits
+pub mod Histories
+pub mod Log
+pub mod LogParts
