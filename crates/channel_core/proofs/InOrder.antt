@@ -1,15 +1,16 @@
 -- Messages are received in the order in which they were sent, and none is lost or doubled.
-use Rattle.std.proofs.Common.{◌≡◌, List, [], ◌∷◌, ◌++◌, drop, Some, refl, sym, ap, ap₂, ◌∙◌, append-nil, append_assoc}
+use Rattle.std.proofs.Common.{◌≡◌, List, [], ◌∷◌, ◌++◌, drop, Some, None, refl, sym, ap, ap₂, ◌∙◌, append-nil, append_assoc}
 use Rattle.std.specs.List.{slice_get}
 use Rattle.std.specs.Option.{option_to_list}
 use Rattle.love_base.specs.declared.stamp.Stamp.{Stamp}
 use Rattle.variant.specs.declared.message.Variant.{Variant}
 use Rattle.channel_core.specs.declared.entry.Entry.{Entry}
-use Rattle.channel_core.specs.declared.entry.Change.TheVariants.{Put, Take}
-use Rattle.channel_core.specs.History.{put_by, take_by, sent_messages, queue, front, received_by, received_through, received_messages}
+use Rattle.channel_core.specs.declared.entry.Change.TheVariants.{Put, Take, Clear, Enter, Leave}
+use Rattle.channel_core.specs.History.{put_by, take_by, clear_by, sent_by, counts, counts_after, sent_messages, queue, front, received_by, received_through, received_messages}
 use Rattle.channel_core.specs.Lawful.{HasMessages}
-use Rattle.channel_core.proofs.Histories.{sent_messages-put, sent_messages-take, queue-put, queue-take}
-use Rattle.channel_core.proofs.Lawfulness.{Finds, by_entries, AtEach-before, received-le-sent}
+use Rattle.variant.proofs.Histories.{by_entries, AtEach-before}
+use Rattle.channel_core.proofs.Histories.{sent_messages-put, sent_messages-take, sent_messages-quiet, queue-put, queue-take, queue-clear, queue-same}
+use Rattle.channel_core.proofs.Lawfulness.{Finds, received-le-sent}
 
 received_through-push : (before es : List Entry) (e : Entry) → received_through before (es ++ e ∷ []) ≡ received_through before es ++ received_by (before ++ es) e.what
 received_through-push before [] e = append-nil (received_by before e.what) ∙ ap (λ b. received_by b e.what) (sym (append-nil before))
@@ -50,8 +51,24 @@ sent_in_order = by_entries (λ h. HasMessages h → sent_messages h ≡ received
         ∙ sym (append_assoc (received_messages h) (option_to_list (front h)) (drop 1 (queue h)))
         ∙ ap₂ ◌++◌ (sym (received_messages-push h (take_by by))) (sym (queue-take h by))
 
+    with_clear : (h : List Entry) (by : Stamp) → sent_messages h ≡ received_messages h ++ queue h → sent_messages (h ++ clear_by by ∷ []) ≡ received_messages (h ++ clear_by by ∷ []) ++ queue (h ++ clear_by by ∷ [])
+    with_clear h by so_far =
+        sent_messages-quiet h (clear_by by) refl
+        ∙ so_far
+        ∙ sym (append-nil (received_messages h ++ queue h))
+        ∙ ap₂ ◌++◌ (sym (received_messages-push h (clear_by by))) (sym (queue-clear h by))
+
+    with_section : (h : List Entry) (e : Entry) → sent_by e.what ≡ None → counts_after (counts h) e.what ≡ counts h → received_by h e.what ≡ [] → sent_messages h ≡ received_messages h ++ queue h → sent_messages (h ++ e ∷ []) ≡ received_messages (h ++ e ∷ []) ++ queue (h ++ e ∷ [])
+    with_section h e none same nothing so_far =
+        sent_messages-quiet h e none
+        ∙ so_far
+        ∙ ap₂ ◌++◌ (sym (received_messages-push h e ∙ ap (λ ms. received_messages h ++ ms) nothing ∙ append-nil (received_messages h))) (sym (queue-same h e none same))
+
     step : (h : List Entry) (e : Entry) → sent_messages h ≡ received_messages h ++ queue h → HasMessages h → sent_messages (h ++ e ∷ []) ≡ received_messages (h ++ e ∷ []) ++ queue (h ++ e ∷ [])
     step h e so_far each = elim e.what as (λ w. sent_messages (h ++ record e { what = w } ∷ []) ≡ received_messages (h ++ record e { what = w } ∷ []) ++ queue (h ++ record e { what = w } ∷ [])) [
       | Put m ↦ with_put h e.by m so_far each
       | Take ↦ with_take h e.by so_far
+      | Clear ↦ with_clear h e.by so_far
+      | Enter ↦ with_section h (record { by = e.by; what = Enter }) refl refl refl so_far
+      | Leave ↦ with_section h (record { by = e.by; what = Leave }) refl refl refl so_far
     ]

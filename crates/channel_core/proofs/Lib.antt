@@ -1,3 +1,4 @@
+pub mod Answering
 pub mod Histories
 pub mod Indexes
 pub mod InOrder

@@ -1,3 +1,5 @@
+pub mod Answers
+pub mod Calls
 pub mod History
 pub mod Index
 pub mod Lawful

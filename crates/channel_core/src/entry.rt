@@ -20,6 +20,12 @@ pub enum Change {
     Put(Variant),
     /// It received the message that had waited longest (LÖVE wiki, `Channel:pop`).
     Take,
+    /// It received all messages that waited (LÖVE wiki, `Channel:clear`).
+    Clear,
+    /// It began a section that no other state comes into (LÖVE wiki, `Channel:performAtomic`).
+    Enter,
+    /// It ended that section.
+    Leave,
 }
 
 impl Change {
@@ -31,7 +37,7 @@ impl Change {
     {
         match self {
             Change::Put(message) => Some(message),
-            Change::Take => None,
+            Change::Take | Change::Clear | Change::Enter | Change::Leave => None,
         }
     }
 }

@@ -1,7 +1,7 @@
 ghost use Rattle.std.specs.Prelude.{◌≡◌};
 ghost use Rattle.channel_core.specs.declared.fault.PutFault.TheVariants.{Memory as OutOfMemory};
 
-use std::alloc::AllocFailed;
+use std::alloc::AllocError;
 
 /// Why a Channel refused a change. After it the Channel is as it was.
 #[derive(Clone, Copy, Debug, PartialEq, Eq)]
@@ -20,10 +20,10 @@ impl From<love_base::Memory> for PutFault {
     }
 }
 
-impl<T: Drop> From<AllocFailed<T>> for PutFault {
+impl From<AllocError> for PutFault {
     ghost from_gives = { λ _ fault. fault ≡ OutOfMemory };
 
-    fn from(_refused: AllocFailed<T>) -> PutFault {
+    fn from(_refused: AllocError) -> PutFault {
         PutFault::Memory
     }
 }

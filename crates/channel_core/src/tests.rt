@@ -1,5 +1,6 @@
-ghost use Rattle.std.specs.Prelude.{◌+◌, ◌<◌, ◌^◌, length, IfOk};
-ghost use Rattle.channel_core.specs.Lawful.{NumbersBelow};
+ghost use Rattle.std.specs.Prelude.{◌≡◌, ◌+◌, ◌<◌, ◌^◌, length, IsTrue, IfOk, Option};
+ghost use Rattle.channel_core.specs.History.{holder};
+ghost use Rattle.channel_core.specs.Lawful.{IsAdmitted, NumbersBelow};
 
 use crate::{Change, Channel, PutFault};
 use love_base::{Memory, Stamp, Text};
@@ -17,39 +18,95 @@ enum Call {
     Take(u32, u32, u8),
     /// A take that gives nothing.
     Empty,
+    /// The place that a clear gives, if it changes anything.
+    Wipe(Option<u32>),
+    /// The place that the beginning of a section gives.
+    Enter(u32),
+    /// The place that the end of a section gives.
+    Leave(u32),
+    /// An id, and whether it was read.
+    Read(i64, bool),
+    /// How many wait, and the letter in front.
+    Waits(u32, Option<u8>),
 }
 
-use Call::{Empty, Put, Take};
+use Call::{Empty, Enter, Leave, Put, Read, Take, Waits, Wipe};
+
+// The stamp of an action of state 0.
+fn main_state(number: u32) -> Stamp
+    ensures { result ≡ record { state = 0; number = number } }
+{
+    Stamp { state: 0, number }
+}
 
 // The message that is a text of this one letter.
 fn message(alloc: Global, letter: u8) -> Result<Variant, Memory> {
     Ok(Variant::Bytes(Text::of(alloc, &[letter])?))
 }
 
-fn is_text(message: &Variant, bytes: &[u8]) -> bool {
+fn is_text(message: &Variant, letter: u8) -> bool {
     match message {
-        Variant::Bytes(text) => text.bytes() == bytes,
+        Variant::Bytes(text) => text.bytes() == [letter].as_slice(),
         _ => false,
     }
 }
 
-// State 0 puts a message, as its action of this number.
-fn put(channel: &mut Channel, number: u32, message: Variant) -> Result<(u32, u32), PutFault>
-    requires { NumbersBelow number channel.old }
-    ensures { NumbersBelow (number + 1) channel.new }
+// Whether state 0 may change the Channel.
+fn is_open(channel: &Channel) -> bool
+    ensures { IsTrue result → IsAdmitted channel.now 0 }
 {
-    match channel.put(Stamp { state: 0, number }, message) {
-        Ok(answer) => Ok(answer),
-        Err((_, fault)) => Err(fault),
+    match channel.holder() {
+        None => true,
+        Some(state) => state == 0,
     }
 }
 
-// State 0 takes a message, as its action of this number.
-fn take(channel: &mut Channel, number: u32) -> Result<Option<(u32, u32, Variant)>, PutFault>
+// Makes one call as state 0's action of this number.
+fn play(
+    rt: &impl Abort,
+    alloc: Global,
+    channel: &mut Channel,
+    number: u32,
+    call: Call,
+) -> Result<(), Fail>
     requires { NumbersBelow number channel.old }
     ensures { NumbersBelow (number + 1) channel.new }
 {
-    channel.take(Stamp { state: 0, number })
+    assert!(rt; is_open(channel));
+    let by = main_state(number);
+    match call {
+        Put(letter, place, id) => match channel.put(by, message(alloc, letter)?) {
+            Ok(given) => assert_eq!(rt; given, (place, id)),
+            Err((_, fault)) => return Err(fault.into()),
+        },
+        Take(place, id, letter) => match channel.take(by)? {
+            Some((at, number, message)) => {
+                assert_eq!(rt; (at, number), (place, id));
+                assert!(rt; is_text(&message, letter), "message {id}");
+            }
+            None => panic!(rt; "no message {id}"),
+        },
+        Empty => assert!(rt; channel.take(by)?.is_none()),
+        Wipe(place) => assert_eq!(rt; channel.wipe(by)?, place),
+        Enter(place) => {
+            assert!(rt; channel.holder().is_none());
+            assert_eq!(rt; channel.enter(by)?, place);
+        }
+        Leave(place) => {
+            assert!(rt; channel.holder().is_some());
+            assert_eq!(rt; channel.leave(by), place);
+        }
+        Read(id, was_read) => assert_eq!(rt; channel.has_read(id), was_read, "id {id}"),
+        Waits(count, letter) => {
+            assert_eq!(rt; channel.count(), count);
+            match (channel.peek(), letter) {
+                (None, None) => {}
+                (Some(message), Some(letter)) => assert!(rt; is_text(message, letter)),
+                _ => panic!(rt; "another message in front"),
+            }
+        }
+    }
+    Ok(())
 }
 
 // Makes the calls in order on a new Channel, numbered from 1.
@@ -59,20 +116,7 @@ fn played(rt: &impl Abort, alloc: Global, calls: &[Call]) -> Result<Channel, Fai
     let mut channel = Channel::new(alloc);
     let mut next: u32 = 1;
     for call in calls {
-        match *call {
-            Put(letter, place, id) => {
-                let message = message(alloc, letter)?;
-                assert_eq!(rt; put(&mut channel, next, message)?, (place, id));
-            }
-            Take(place, id, letter) => match take(&mut channel, next)? {
-                Some((at, number, message)) => {
-                    assert_eq!(rt; (at, number), (place, id));
-                    assert!(rt; is_text(&message, &[letter]), "message {id}");
-                }
-                None => panic!(rt; "no message {id}"),
-            },
-            Empty => assert!(rt; take(&mut channel, next)?.is_none()),
-        }
+        play(rt, alloc, &mut channel, next, *call)?;
         next += 1;
     }
     Ok(channel)
@@ -86,64 +130,67 @@ fn messages_come_in_the_order_in_which_they_were_put(rt: HostRuntime) -> Result<
         Empty,
         Put(b'b', 3, 2),
         Put(b'c', 4, 3),
-        Put(b'd', 5, 4),
-        Take(6, 2, b'b'),
-        Put(b'e', 7, 5),
-        Take(8, 3, b'c'),
-        Take(9, 4, b'd'),
-        Take(10, 5, b'e'),
+        Waits(2, Some(b'b')),
+        Take(5, 2, b'b'),
+        Put(b'd', 6, 4),
+        Take(7, 3, b'c'),
+        Take(8, 4, b'd'),
         Empty,
-        Empty,
+        Waits(0, None),
     ];
     let channel = played(&rt, rt.alloc(), &calls)?;
-    assert_eq!(rt; (channel.sent(), channel.received()), (5, 5));
-    assert_eq!(rt; channel.history().len(), 10);
-    Ok(())
-}
-
-#[test]
-fn a_history_tells_who_did_what(rt: HostRuntime) -> Result<(), Fail> {
-    let channel = played(
-        &rt,
-        rt.alloc(),
-        &[Put(b'a', 1, 1), Take(2, 1, b'a'), Empty, Put(b'b', 3, 2)],
-    )?;
-    let rows = [(1, true), (2, false), (4, true)];
+    assert_eq!(rt; (channel.sent(), channel.received()), (4, 4));
+    let puts = [true, false, true, true, false, true, false, false];
     let history = channel.history();
-    assert_eq!(rt; history.len(), rows.len());
-    for (entry, (number, is_put)) in history.iter().zip(rows) {
-        assert_eq!(rt; entry.by, Stamp { state: 0, number });
+    assert_eq!(rt; history.len(), puts.len());
+    for (entry, is_put) in history.iter().zip(puts) {
+        assert_eq!(rt; entry.by.state, 0);
         assert_eq!(rt; matches!(entry.what, Change::Put(_)), is_put);
     }
-    assert_eq!(rt; (channel.sent(), channel.received()), (2, 1));
     Ok(())
 }
 
 #[test]
-fn every_message_comes_back_as_it_was(rt: HostRuntime) -> Result<(), Fail> {
-    let printable =
-        b" !#$%&'()*+,-./0123456789:;<=>?@ABCDEFGHIJKLMNOPQRSTUVWXYZ[]^_`abcdefghijklmnopqrstuvwxyz{|}~";
-    let mut channel = Channel::new(rt.alloc());
-    put(&mut channel, 1, Variant::Nil)?;
-    put(&mut channel, 2, Variant::Bool(true))?;
-    put(
-        &mut channel,
-        3,
-        Variant::Bytes(Text::of(rt.alloc(), printable)?),
-    )?;
-    put(&mut channel, 4, Variant::Bytes(Text::of(rt.alloc(), b"")?))?;
-    let (_, _, first) = take(&mut channel, 5)?.ok_or(PutFault::Memory)?;
-    assert!(rt;
-        matches!(first, Variant::Nil),
-        "a message that is nil is a message"
-    );
-    let (_, _, second) = take(&mut channel, 6)?.ok_or(PutFault::Memory)?;
-    assert!(rt; matches!(second, Variant::Bool(true)));
-    let (_, _, third) = take(&mut channel, 7)?.ok_or(PutFault::Memory)?;
-    assert!(rt; is_text(&third, printable));
-    let (_, _, fourth) = take(&mut channel, 8)?.ok_or(PutFault::Memory)?;
-    assert!(rt; is_text(&fourth, b""));
-    assert!(rt; take(&mut channel, 9)?.is_none());
+fn sections_and_clears(rt: HostRuntime) -> Result<(), Fail> {
+    let calls = [
+        Put(b'a', 1, 1),
+        Take(2, 1, b'a'),
+        Empty,
+        Enter(3),
+        Leave(4),
+        Wipe(None),
+        Put(b'b', 5, 2),
+        Read(2, false),
+        Wipe(Some(6)),
+        Read(2, true),
+        Waits(0, None),
+        Put(b'c', 7, 3),
+        Enter(8),
+        Put(b'd', 9, 4),
+        Read(3, false),
+        Take(10, 3, b'c'),
+        Read(3, true),
+        Read(4, false),
+        Wipe(Some(11)),
+        Read(4, true),
+        Leave(12),
+        Put(b'e', 13, 5),
+    ];
+    let channel = played(&rt, rt.alloc(), &calls)?;
+    assert_eq!(rt; (channel.sent(), channel.received()), (5, 4));
+    for (id, was_read) in [
+        (0, false),
+        (-1, false),
+        (i64::MIN, false),
+        (1, true),
+        (4, true),
+        (5, false),
+        (6, false),
+        (4_294_967_297, false),
+        (99_999_999_999_999, false),
+    ] {
+        assert_eq!(rt; channel.has_read(id), was_read, "id {id}");
+    }
     Ok(())
 }
 
@@ -155,67 +202,50 @@ fn numbers_rise_within_a_state_alone(rt: HostRuntime) -> Result<(), Fail> {
         number: 9,
     };
     match channel.put(later, Variant::Nil) {
-        Ok(answer) => assert_eq!(rt; answer, (1, 1)),
+        Ok(given) => assert_eq!(rt; given, (1, 1)),
         Err((_, fault)) => return Err(fault.into()),
     }
-    let taken = channel.take(Stamp {
-        state: 0,
-        number: 1,
-    })?;
+    assert!(rt; is_open(&channel));
+    let taken = channel.take(main_state(1))?;
     assert!(rt; matches!(taken, Some((2, 1, Variant::Nil))));
     Ok(())
 }
 
-// A Channel with this many entries: messages that are nil, each put, and then taken where
-// `in_turn`.
-fn filled(alloc: Global, entries: u32, in_turn: bool) -> Result<Channel, PutFault>
-    requires { entries < 2 ^ 31 }
-    ensures { IfOk result (NumbersBelow (entries + 1)) }
+// A Channel of 1,999,999 entries with an empty queue: two messages that are cleared, and others
+// that are taken in turn.
+fn nearly_full(rt: &impl Abort, alloc: Global) -> Result<Channel, Fail>
+    ensures { IfOk result (NumbersBelow 2000000) }
 {
     let mut channel = Channel::new(alloc);
-    for i in 0..entries {
-        let number = i + 1;
-        if in_turn && i % 2 == 1 {
-            take(&mut channel, number)?;
+    for i in 0..1_999_999u32 {
+        assert!(rt; is_open(&channel));
+        let by = main_state(i + 1);
+        if i < 2 || (i > 2 && i % 2 == 1) {
+            assert!(rt; channel.put(by, Variant::Nil).is_ok());
+        } else if i == 2 {
+            assert_eq!(rt; channel.wipe(by)?, Some(3));
         } else {
-            put(&mut channel, number, Variant::Nil)?;
+            assert!(rt; channel.take(by)?.is_some());
         }
     }
     Ok(channel)
 }
 
 #[test]
-fn the_last_entry_is_the_two_millionth(rt: HostRuntime) -> Result<(), Fail> {
-    let mut channel = filled(rt.alloc(), 1_999_999, false)?;
-    assert_eq!(rt;
-        put(&mut channel, 2_000_000, Variant::Bool(true))?,
-        (2_000_000, 2_000_000)
-    );
-    let refused = channel.put(
-        Stamp {
-            state: 0,
-            number: 2_000_001,
-        },
-        Variant::Bool(false),
-    );
+fn at_the_limit_a_section_still_ends(rt: HostRuntime) -> Result<(), Fail> {
+    let mut channel = nearly_full(&rt, rt.alloc())?;
+    assert_eq!(rt; (channel.history().len(), channel.count()), (1_999_999, 0));
+    assert!(rt; channel.holder().is_none());
+    assert_eq!(rt; channel.enter(main_state(2_000_000))?, 2_000_000);
+    assert_eq!(rt; channel.holder(), Some(0));
+    assert!(rt; is_open(&channel));
+    let refused = channel.put(main_state(2_000_001), Variant::Bool(false));
     assert!(rt; matches!(refused, Err((Variant::Bool(false), PutFault::Full))));
-    assert!(rt; matches!(take(&mut channel, 2_000_001), Err(PutFault::Full)));
-    assert_eq!(rt; channel.history().len(), 2_000_000);
-    assert_eq!(rt; (channel.sent(), channel.received()), (2_000_000, 0));
-    Ok(())
-}
-
-#[test]
-fn an_empty_queue_is_told_before_the_limit(rt: HostRuntime) -> Result<(), Fail> {
-    let mut channel = filled(rt.alloc(), 2_000_000, true)?;
-    assert!(rt; take(&mut channel, 2_000_001)?.is_none());
-    assert_eq!(rt;
-        put(&mut channel, 2_000_002, Variant::Nil),
-        Err(PutFault::Full)
-    );
-    assert_eq!(rt;
-        (channel.sent(), channel.received()),
-        (1_000_000, 1_000_000)
-    );
+    assert!(rt; channel.take(main_state(2_000_001))?.is_none());
+    assert_eq!(rt; channel.wipe(main_state(2_000_001))?, None);
+    assert_eq!(rt; channel.leave(main_state(2_000_001)), 2_000_001);
+    assert!(rt; channel.holder().is_none());
+    assert_eq!(rt; channel.enter(main_state(2_000_002)), Err(PutFault::Full));
+    assert_eq!(rt; channel.history().len(), 2_000_001);
     Ok(())
 }
