@@ -1,0 +1,19 @@
+//! The board of one thread: the names of Channels, the Threads, the states that were started, and
+//! the history of what was done to them.
+//!
+//! `docs/BOARD.md` says in words what a board is.
+#![tactic(auto)]
+
+mod board;
+mod entry;
+mod fault;
+mod job;
+mod place;
+
+pub use board::{Board, Named};
+pub use entry::{BoardChange, BoardEntry};
+pub use fault::BoardFault;
+pub use job::Job;
+
+#[cfg(test)]
+mod tests;
