@@ -9,7 +9,7 @@ use Rattle.channel_core.specs.declared.entry.Entry.{Entry}
 use Rattle.channel_core.specs.History.{front, put_by, queue, received_messages, sent_messages, take_by}
 use Rattle.channel_core.specs.Lawful.{HasMessages}
 use Rattle.channel_core.proofs.Histories.{front-none, front-waits, sent_messages-put, sent_messages-take}
-use Rattle.channel_core.proofs.Lawfulness.{AtEach-nil, AtEach-push}
+use Rattle.variant.proofs.Histories.{AtEach-nil, AtEach-push}
 use Rattle.channel_core.proofs.InOrder.{received_messages-put, received_messages-take, sent_in_order}
 use Rattle.love_run.specs.Run.{added, caller, history, history_from, popped, popped_by, popped_entry, popped_from, pushed, pushed_by}
 use Rattle.love_run.specs.declared.statement.Statement.{Statement}

@@ -4,8 +4,9 @@ use Rattle.std.proofs.Math.Seq.{drop-cons, take-suc}
 use Rattle.std.proofs.lemmas.List.{append_assoc, append-nil, length-append, length-take-le, take-append-drop}
 use Rattle.variant.specs.declared.message.Variant.{Variant}
 use Rattle.channel_core.specs.declared.entry.Entry.{Entry}
-use Rattle.channel_core.specs.History.{front, put_by, take_by}
+use Rattle.channel_core.specs.History.{front, holder, put_by, take_by}
 use Rattle.channel_core.specs.Lawful.{NumbersBelow}
+use Rattle.channel_core.proofs.Histories.{holder-push}
 use Rattle.channel_core.proofs.Lawfulness.{NumbersBelow-push, NumbersBelow-weaker}
 use Rattle.love_run.specs.Run.{added, caller, history, history_from, IsCut, output, output_from, popped_entry, printed}
 use Rattle.love_run.specs.Outcome.{StopsIn}
@@ -13,12 +14,13 @@ use Rattle.love_run.specs.declared.statement.Statement.{Statement}
 use Rattle.love_run.specs.declared.statement.Statement.TheVariants.{Blank, Print, Push, PrintPop}
 
 -- A program has run up to a line: the lines before it are whole, and the history has no more entries than lines were
--- run, all with numbers of those lines.
+-- run, all with numbers of those lines, and none of which begins a section.
 pub record HasRun (program : List Statement) (line : ℕ) (out : List ℕ) (h : List Entry) : Type 0 where
   pub prints : out ≡ output (take line program)
   pub does : h ≡ history (take line program)
   pub numbers : NumbersBelow (line + 1) h
   pub few : length h ≤ line
+  pub free : holder h ≡ None
 
 -- what two lists of statements print and do, one behind the other
 pub output-append : (line : ℕ) (h : List Entry) (xs ys : List Statement) → output_from line h (xs ++ ys) ≡ output_from line h xs ++ output_from (line + length xs) (history_from line h xs) ys
@@ -72,6 +74,17 @@ added_below line h (Push message) below =
     NumbersBelow-push h (put_by (caller line) message) (line + 1) (NumbersBelow-weaker h line (line + 1) below (omega arith)) (omega arith)
 added_below line h PrintPop below = popped_below line h (front h) below
 
+-- no line begins a section
+popped_free : (line : ℕ) (h : List Entry) (answer : Option Variant) → holder h ≡ None → holder (h ++ popped_entry (caller line) answer) ≡ None
+popped_free line h None free = rw append-nil free
+popped_free line h (Some message) free = holder-push h (take_by (caller line)) ∙ free
+
+added_free : (line : ℕ) (h : List Entry) (statement : Statement) → holder h ≡ None → holder (h ++ added line h statement) ≡ None
+added_free line h Blank free = rw append-nil free
+added_free line h (Print literal) free = rw append-nil free
+added_free line h (Push message) free = holder-push h (put_by (caller line) message) ∙ free
+added_free line h PrintPop free = popped_free line h (front h) free
+
 -- a line adds at most one entry
 popped_few : (line : ℕ) (answer : Option Variant) → length (popped_entry (caller line) answer) ≤ 1
 popped_few line None = omega arith
@@ -113,6 +126,7 @@ line_run program line statement out out' h h' within is printing adds so_far =
           ∙ sym (history-snoc before statement)
           ∙ ap history (sym taken);
       numbers = rw adds (added_below (line + 1) h statement so_far.numbers);
+      free = rw adds (added_free (line + 1) h statement so_far.free);
       few = rw (adds, length-append h (added (line + 1) h statement)) (omega (arith, added_few (line + 1) h statement, so_far.few));
     }
 

@@ -35,13 +35,14 @@ abbrev pub IsPlain : ℕ → Type 0
 IsPlain byte = (32 ≤ byte) × (byte ≤ 126) × (byte ≢ quote) × (byte ≢ 92)
 
 -- The text spells the message as a literal: one to fourteen decimal digits that write a number, or a string
--- between quotes. No literal spells `nil`, `true` or `false`.
+-- between quotes. No literal spells any other message.
 abbrev pub SpellsLiteral : Variant → List ℕ → Type 0
 SpellsLiteral Nil text = ⊥
 SpellsLiteral (Bool truth) text = ⊥
 SpellsLiteral (Num n) text =
     (0 < length text) × (length text ≤ 14) × AllDigits 10 text × (n ≡ pos (digits_value 10 text))
 SpellsLiteral (Bytes bytes) text = All IsPlain bytes × (text ≡ quote ∷ (bytes ++ quote ∷ []))
+SpellsLiteral other text = ⊥
 
 -- the line is a literal between these two texts
 abbrev pub SpellsBetween : List ℕ → List ℕ → Variant → List ℕ → Type 0

@@ -1,6 +1,6 @@
-ghost use Rattle.std.specs.Prelude.{◌≡◌, ◌<◌, ◌++◌, ◌∷◌, [], length, IfOk, OnOk, OnErr};
+ghost use Rattle.std.specs.Prelude.{◌≡◌, ◌<◌, ◌++◌, ◌∷◌, [], length, Option, IfOk, OnOk, OnErr};
 ghost use Rattle.channel_core.specs.Lawful.{entry_limit, NumbersBelow};
-ghost use Rattle.channel_core.specs.History.{front, put_by};
+ghost use Rattle.channel_core.specs.History.{front, holder, put_by};
 ghost use Rattle.love_run.specs.Outcome.{IsCutShort};
 ghost use Rattle.love_run.specs.Program.{newline};
 ghost use Rattle.love_run.specs.Run.{added, caller, history, IsCut, output, popped_entry, printed, PrintsInPart, shown, shown_answer};
@@ -41,6 +41,7 @@ fn step(
     channel: &mut Channel,
     out: &mut Vec<u8>,
 ) -> Result<(), Memory>
+    requires free { holder channel.old ≡ Option.None }
     requires later { NumbersBelow line channel.old }
     requires room { length channel.old < entry_limit }
     ensures printed { OnOk result
@@ -62,6 +63,7 @@ fn step(
 }
 
 fn push(channel: &mut Channel, line: u32, message: Variant) -> Result<(), Memory>
+    requires free { holder channel.old ≡ Option.None }
     requires later { NumbersBelow line channel.old }
     requires room { length channel.old < entry_limit }
     ensures ok { OnOk result (channel.new ≡ channel.old ++ put_by (caller line) message ∷ []) }
@@ -75,6 +77,7 @@ fn push(channel: &mut Channel, line: u32, message: Variant) -> Result<(), Memory
 }
 
 fn pop(channel: &mut Channel, line: u32) -> Result<Option<Variant>, Memory>
+    requires free { holder channel.old ≡ Option.None }
     requires later { NumbersBelow line channel.old }
     requires room { length channel.old < entry_limit }
     ensures answer { IfOk result (λ answer. answer ≡ front channel.old) }
@@ -138,6 +141,10 @@ fn show(message: &Variant, out: &mut Vec<u8>) -> Result<(), Memory>
             out.extend_from_slice(number.text(&mut buffer).as_bytes())?;
         }
         Variant::Bytes(text) => out.extend_from_slice(text.bytes())?,
+        // No line spells these.
+        Variant::Data(_) | Variant::Channel(_) | Variant::Table(_) => {
+            out.extend_from_slice(b"object")?;
+        }
     }
     Ok(())
 }
