@@ -45,6 +45,7 @@ SpellsLiteral (Data content) text = ⊥
 SpellsLiteral (Channel number) text = ⊥
 SpellsLiteral (Table pairs) text = ⊥
 SpellsLiteral (Bytes bytes) text = All IsPlain bytes × (text ≡ quote ∷ (bytes ++ quote ∷ []))
+SpellsLiteral other text = ⊥
 
 -- the line is a literal between these two texts
 abbrev pub SpellsBetween : List ℕ → List ℕ → Variant → List ℕ → Type 0

@@ -13,17 +13,15 @@ use Rattle.love_run.specs.declared.statement.Statement.{Statement}
 use Rattle.love_run.specs.declared.statement.Statement.TheVariants.{Blank, Print, Push, PrintPop}
 use Rattle.love_run.specs.Program.{newline}
 
--- how a message is printed: a number by its decimal digits, a string by its bytes, and any other by its
--- kind, which no line spells
+-- how a message is printed: a number by its decimal digits, a string by its bytes, and any other one, which
+-- no line spells, as an object
 abbrev pub shown : Variant → List ℕ
 shown Nil = codes "nil"
 shown (Bool true) = codes "true"
 shown (Bool false) = codes "false"
 shown (Num n) = signed_decimal n
 shown (Bytes bytes) = bytes
-shown (Data content) = codes "Data"
-shown (Channel number) = codes "Channel"
-shown (Table pairs) = codes "table"
+shown other = codes "object"
 
 -- how the answer of a pop is printed: the message, or `nil` where none waits
 abbrev pub shown_answer : Option Variant → List ℕ

@@ -141,9 +141,10 @@ fn show(message: &Variant, out: &mut Vec<u8>) -> Result<(), Memory>
             out.extend_from_slice(number.text(&mut buffer).as_bytes())?;
         }
         Variant::Bytes(text) => out.extend_from_slice(text.bytes())?,
-        Variant::Data(_) => out.extend_from_slice(b"Data")?,
-        Variant::Channel(_) => out.extend_from_slice(b"Channel")?,
-        Variant::Table(_) => out.extend_from_slice(b"table")?,
+        // No line spells these.
+        Variant::Data(_) | Variant::Channel(_) | Variant::Table(_) => {
+            out.extend_from_slice(b"object")?;
+        }
     }
     Ok(())
 }

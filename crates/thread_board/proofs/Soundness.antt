@@ -158,7 +158,7 @@ state-may_start workers r thread args job may = (may_start workers r thread args
 pub answer-may_start : (workers : ℕ) (r : Register) (thread : ℕ) (args : List Variant) (job : Job) (h : List BoardEntry) (by : ℕ) → MayStart workers r thread args job → answer_by workers 0 (Asked (AskStart thread args)) by r h ≡ adds (Flag true) (Start (length r.states + 1) thread args)
 answer-may_start workers r thread args job h by may = (may_start workers r thread args job (numbered r.threads thread) refl may).3 h by
 
-pub IsSound-start : (workers : ℕ) (h : List BoardEntry) (r : Register) (count room more : ℕ) (by : Stamp) (thread : ℕ) (args : List Variant) (job : Job)
+IsSound-start : (workers : ℕ) (h : List BoardEntry) (r : Register) (count room more : ℕ) (by : Stamp) (thread : ℕ) (args : List Variant) (job : Job)
     → IsSound workers h r count room → MayStart workers r thread args job → by.state ≤ r.begun → IsLater h by → length h + owed workers r + 3 ≤ more
     → IsSound workers (h ++ entry by (Start (length r.states + 1) thread args) ∷ []) (started_as r (length r.states + 1) thread (job ∷ [])) (count + 1) more
 IsSound-start workers h r count room more by thread args job sound may begun later spare =
@@ -186,6 +186,13 @@ IsSound-start workers h r count room more by thread args job sound may begun lat
       total = omega (arith, longer, same_threads, wider, one_more, sound.total);
       spare = omega (arith, longer, waits, one_more);
     }
+
+-- the same, by the number of the new state
+pub IsSound-start_as : (workers : ℕ) (h : List BoardEntry) (r : Register) (count room more : ℕ) (by : Stamp) (state thread : ℕ) (args : List Variant) (job : Job)
+    → IsSound workers h r count room → MayStart workers r thread args job → state ≡ length r.states + 1 → by.state ≤ r.begun → IsLater h by → length h + owed workers r + 3 ≤ more
+    → IsSound workers (h ++ entry by (Start state thread args) ∷ []) (started_as r state thread (job ∷ [])) (count + 1) more
+IsSound-start_as workers h r count room more by state thread args job sound may number begun later spare =
+    rw number (IsSound-start workers h r count room more by thread args job sound may begun later spare)
 
 -- the first job that waits begins
 pub IsSound-begin : (workers : ℕ) (h : List BoardEntry) (r : Register) (count room more worker : ℕ) (job : Job) (others : List Job)

@@ -1,6 +1,4 @@
-use crate::{
-    Action, Ask, Deed, EndKind, Reply, Source, StateLog, Variant, copy_all, fits,
-};
+use crate::{Action, Ask, Deed, EndKind, Reply, Source, StateLog, Variant, copy_all, fits};
 use love_base::{ChannelNo, Data, List, Memory, Text};
 use lua_value::Num;
 use std::alloc::Global;
@@ -9,7 +7,10 @@ use std::test::Fail;
 // A message of a table whose one value is a table of one pair.
 fn nested(alloc: Global) -> Result<Variant, Memory> {
     let mut inner = Vec::new(alloc);
-    inner.push((Variant::Bool(true), Variant::Bytes(Text::of(alloc, b"deep")?)))?;
+    inner.push((
+        Variant::Bool(true),
+        Variant::Bytes(Text::of(alloc, b"deep")?),
+    ))?;
     let mut outer = Vec::new(alloc);
     outer.push((Variant::Bool(false), Variant::Table(List::from_vec(inner))))?;
     Ok(Variant::Table(List::from_vec(outer)))
@@ -56,8 +57,7 @@ fn a_copy_is_there_for_each_kind(rt: HostRuntime) -> Result<(), Fail> {
 }
 
 // An action of this number with no content of its own.
-fn action(number: u32, deed: Deed) -> Action
-{
+fn action(number: u32, deed: Deed) -> Action {
     Action {
         number,
         object: 0,

@@ -2,12 +2,12 @@ use Rattle.std.proofs.Common.{◌+◌, ◌<◌, ◌≤◌, ◌≡◌, ℕ, ap, s
 use Rattle.std.proofs.lemmas.Grind.{common_steps}
 use Rattle.thread_board.specs.declared.place.Started.{Started}
 use Rattle.thread_board.specs.View.{BoardView}
-use Rattle.thread_board.specs.Register.{Register, register, HasBegun, is_working, numbered, channel_of}
+use Rattle.thread_board.specs.Register.{Register, register, HasBegun, is_working, numbered, channel_of, change_thread}
 use Rattle.thread_board.specs.Sound.{owed, MayStart, kept_names}
 use Rattle.thread_board.specs.Lawful.{IsLater}
 use Rattle.thread_board.specs.Answers.{channel_limit, thread_limit}
 use Rattle.thread_board.proofs.Registering.{kept_names-insert, channel_of-kept, numbered-within, numbered-read, not_ended-numbered}
-use Rattle.thread_board.proofs.Soundness.{IsSound-name, IsSound-new_channel, IsSound-new_thread, IsSound-start, IsSound-begin, IsSound-end, IsSound-main_end, working-kept, count-working, thread-may_start, state-may_start, working}
+use Rattle.thread_board.proofs.Soundness.{IsSound-name, IsSound-new_channel, IsSound-new_thread, IsSound-start_as, IsSound-begin, IsSound-end, IsSound-main_end, working-kept, count-working, thread-may_start, state-may_start, working}
 use Rattle.thread_board.proofs.board.Board.start.Goals as goal
 
 pub set_thread-requires : goal.set_thread-requires
@@ -27,5 +27,19 @@ invariant_of-self-2 c =
     let may' = subst (λ (r : Register). MayStart c.self.inside.workers r c.args.thread c.args.args c.in-Ok.job) (sym c.self.invariant.same) may in
     let pushed = rw c.unwrap.ensures at c.push.ensures.items in
     let number = state-may_start _ _ _ _ _ may' in
-    rw (c.append-place.ensures.items, c.in_ok-reserve.ensures.items, c.set_thread.ensures, pushed, c.in_ok-reserve-2.ensures.items, c.in_ok-push_back.ensures.items, number, length-append)
-    (IsSound-start _ _ _ _ _ (vec_capacity c.append-place.new.history) c.args.by c.args.thread c.args.args c.in-Ok.job c.self.invariant may' begun later (grind (arith, common_steps)))
+    let threads : c.set_thread.new.threads.items ≡ change_thread c.self.inside.threads.items c.args.thread (Some c.in-Ok.job.state) None = c.set_thread.ensures in
+    rw (c.append-place.ensures.items, c.in_ok-reserve.ensures.items, threads, pushed, c.in_ok-reserve-2.ensures.items, c.in_ok-push_back.ensures.items, length-append)
+    (IsSound-start_as _ _ _ _ _ (vec_capacity c.append-place.new.history) c.args.by c.in-Ok.job.state c.args.thread c.args.args c.in-Ok.job c.self.invariant may' number begun later (grind (arith, common_steps)))
+
+pub returns-in-Err-clause-closed : goal.returns-in-Err-clause-closed
+returns-in-Err-clause-closed c = λ place.
+    let says = c.in-Err.ensures.closed place in
+    (λ e. says.0 (cc), λ ended. let same = says.1 ended in cc)
+
+pub returns-in-Err-clause-already : goal.returns-in-Err-clause-already
+returns-in-Err-clause-already c = λ state.
+    let says = c.in-Err.ensures.already state in
+    (λ e. says.0 (cc), λ runs. let same = says.1 runs in cc)
+
+pub returns-in-Err-clause-answer : goal.returns-in-Err-clause-answer
+returns-in-Err-clause-answer c = c.in-Err.ensures.refused c.args.by.state
