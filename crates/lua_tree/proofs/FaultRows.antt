@@ -1,6 +1,5 @@
 -- Short sources, read.
-use Rattle.std.proofs.Common.{ℕ, suc, ◌+◌, ◌≤◌, ◌<◌, List, [], ◌∷◌, true, false, arith}
-use Rattle.lua_tree.specs.Tree.{Bytes}
+use Rattle.std.proofs.Common.{◌≤◌, ◌<◌, [], ◌∷◌, false, arith}
 use Rattle.lua_tree.specs.Words as w
 use Rattle.lua_tree.specs.Words.{key, Tok, tok}
 use Rattle.lua_tree.specs.Attributes.{Limit, breaks, varargs, nodes, locals, calls, at_chunk}

@@ -1,5 +1,5 @@
 -- Rows on faults: the exact answers for some short sources.
-use Rattle.std.specs.Prelude.{ℤ, true, false, List, [], ◌∷◌}
+use Rattle.std.specs.Prelude.{ℤ, true, [], ◌∷◌}
 use Rattle.lua_tree.specs.Tree.{Bytes}
 use Rattle.lua_tree.specs.Words as w
 use Rattle.lua_tree.specs.Words.{key, Tok, tok}
