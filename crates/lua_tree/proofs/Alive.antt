@@ -1,21 +1,21 @@
 -- What is to be shown of each rule, so that wherever a program stands, some tokens bring it to an end and make nothing more
 -- unavoidable than what it has taken.
-use Rattle.std.proofs.Common.{ℕ, suc, ◌+◌, ◌≤◌, ◌<◌, ◌≡◌, refl, sym, ap, ◌∙◌, subst, max, List, [], ◌∷◌, ◌++◌, Bool, true, false, arith, append_assoc}
+use Rattle.std.proofs.Common.{suc, ◌≤◌, ◌≡◌, refl, sym, subst, max, List, [], ◌∷◌, ◌++◌, Bool, true, false, arith, append_assoc}
 use Rattle.std.proofs.lemmas.List.{append_cancel_right}
-use Rattle.lua_tree.specs.Tree.{Bytes, Expr}
+use Rattle.lua_tree.specs.Tree.{Bytes}
 use Rattle.lua_tree.specs.Words as w
 use Rattle.lua_tree.specs.Words.{Word, Key, key, Spot, Tok, tok, nowhere, word_in, word_of, spot_of}
 use Rattle.lua_tree.specs.Grammar.{unary_level, NotOpen}
-use Rattle.lua_tree.specs.Attributes.{Limit, breaks, varargs, nodes, locals, calls, Counts, node, most, most_exprs}
+use Rattle.lua_tree.specs.Attributes.{Limit, nodes, locals, Counts, node, most, most_exprs}
 use Rattle.lua_tree.specs.Reading as r
 use Rattle.lua_tree.specs.Reading.{Sort, Value, Rule, Needs, Prog, give, fail, take, look, expect, expect_name, at_last, then, free, opening, held, shape, unfinished, program}
 use Rattle.lua_tree.proofs.Comes as c
 use Rattle.lua_tree.proofs.Comes.{Comes, both}
 use Rattle.lua_tree.proofs.Follow.{Stops, NotComma, EndsBlock}
-use Rattle.lua_tree.proofs.Runs.{Alike, Took, took}
+use Rattle.lua_tree.proofs.Runs.{Alike, took}
 use Rattle.lua_tree.proofs.Posts.{Post, AllSound}
 use Rattle.lua_tree.proofs.Holds.{holds}
-use Rattle.lua_tree.proofs.Partly.{Partly, now, later, looking, key_now, key_later, name_now, name_later, inside, behind, front_alike, front_word, front_spot}
+use Rattle.lua_tree.proofs.Partly.{Partly, now, later, looking, key_now, key_later, name_now, name_later, inside, behind, front_word, front_spot}
 
 -- ---- what is counted, behind a name and behind another token
 

@@ -1,19 +1,17 @@
 -- The tokens that close each rule.
-use Rattle.std.proofs.Common.{ℕ, suc, ◌+◌, ◌≤◌, ◌<◌, ◌≡◌, refl, sym, ap, ◌∙◌, subst, max, List, [], ◌∷◌, ◌++◌, Bool, true, false, arith, append_assoc, leb, cond}
-use Rattle.lua_tree.specs.Tree.{Bytes, Expr, nil, name, call, index, str, method, paren, Exprs, no_exprs, expr_and, Fields, no_fields, Func, func, Block, no_stats, Stat, return_stat, Arms, no_else}
+use Rattle.std.proofs.Common.{ℕ, suc, ◌+◌, ◌≤◌, ◌≡◌, refl, sym, ap, subst, List, [], ◌∷◌, ◌++◌, Bool, true, false, arith, append_assoc}
+use Rattle.lua_tree.specs.Tree.{Bytes, Expr, nil, name, call, index, str, no_exprs, expr_and, no_fields, no_stats, return_stat, no_else}
 use Rattle.lua_tree.specs.Words as w
 use Rattle.lua_tree.specs.Words.{Word, Key, key, Spot, Tok, tok, nowhere, word_in, word_of, spot_of}
-use Rattle.lua_tree.specs.Grammar.{level, NotOpen}
-use Rattle.lua_tree.specs.Attributes.{Limit, breaks, varargs, nodes, locals, calls, Counts, node, under, most, height, at_call}
+use Rattle.lua_tree.specs.Grammar.{NotOpen}
+use Rattle.lua_tree.specs.Attributes.{Limit, breaks, varargs, nodes, locals, calls, Counts, height}
 use Rattle.lua_tree.specs.Reading as r
 use Rattle.lua_tree.specs.Reading.{Sort, Value, Rule, Needs, Prog, Place, in_expr, leading, targeted, Shape, a_var, a_call, a_paren, give, fail, take, look, expect, expect_name, at_last, then, free, deep, many, opening, held, down, shape, unfinished, program, an_expr, an_args, some_exprs, some_fields, a_func, a_block, a_stat, some_arms, some_names, some_params, a_target, some_targets, a_semi}
 use Rattle.lua_tree.proofs.Comes as cm
 use Rattle.lua_tree.proofs.Comes.{Comes, both}
 use Rattle.lua_tree.proofs.Follow.{Stops, NotComma, EndsBlock, NotSuffix, NotFrom}
-use Rattle.lua_tree.proofs.Heights.{raised, node_in, one_high}
-use Rattle.lua_tree.proofs.Counting.{one_deep, two_deep, node_under}
-use Rattle.lua_tree.proofs.Steps.{leb_false}
-use Rattle.lua_tree.proofs.Alive.{Counted, Within, Up, BehindExp, BehindList, IsAssign, IsOpen, Behind, Good, Has, Base, Closed, Shut}
+use Rattle.lua_tree.proofs.Counting.{one_deep}
+use Rattle.lua_tree.proofs.Alive.{Within, BehindExp, BehindList, IsAssign, IsOpen, Behind, Good, Has, Closed, Shut}
 
 -- ---- ends are put together
 

@@ -1,9 +1,9 @@
 -- What a program reads without limits, and how much of what is limited its tokens make unavoidable.
-use Rattle.std.proofs.Common.{ℕ, ◌≤◌, ◌<◌, ◌≡◌, max, List, [], ◌∷◌}
+use Rattle.std.proofs.Common.{max, List, [], ◌∷◌}
 use Rattle.lua_tree.specs.Tree.{Bytes}
 use Rattle.lua_tree.specs.Words as w
 use Rattle.lua_tree.specs.Words.{Word, Key, key, Spot, Tok, tok, word_of, spot_of}
-use Rattle.lua_tree.specs.Reading.{Sort, Value, Rule, Needs, Prog, give, fail, take, look, expect, expect_name, at_last, then, free, program}
+use Rattle.lua_tree.specs.Reading.{Sort, Value, Rule, Needs, Prog, give, take, look, expect, expect_name, at_last, then, free, program}
 
 -- both make unavoidable so much
 abbrev pub both : Needs → Needs → Needs

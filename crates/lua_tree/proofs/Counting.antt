@@ -1,9 +1,9 @@
 -- What tokens make unavoidable, and what is counted at the nodes that they make.
-use Rattle.std.proofs.Common.{ℕ, zero, suc, ◌+◌, ◌≤◌, ◌≡◌, refl, sym, ap, max, length, List, [], ◌∷◌, ◌++◌, Bool, true, false, arith}
-use Rattle.lua_tree.specs.Tree.{Bytes, Expr, Exprs, Func, Block, Stat}
-use Rattle.lua_tree.specs.Attributes.{Limit, breaks, varargs, nodes, locals, calls, Counts, under, looped, named, inside, node, at_dots, at_call, at_end, at_break, declared, most, most_exprs, height}
-use Rattle.lua_tree.specs.Reading.{deep, many, for_dots, for_break, opening, down, held, in_loop, in_body, behind}
-use Rattle.lua_tree.proofs.Heights.{raised, one_high, node_in}
+use Rattle.std.proofs.Common.{ℕ, suc, ◌+◌, ◌≤◌, ◌≡◌, refl, ap, max, length, List, Bool, true, false, arith}
+use Rattle.lua_tree.specs.Tree.{Bytes, Expr}
+use Rattle.lua_tree.specs.Attributes.{Limit, breaks, varargs, nodes, locals, calls, Counts, under, looped, named, inside, node, at_dots, at_call, at_end, at_break, most, height}
+use Rattle.lua_tree.specs.Reading.{deep, many, for_dots, for_break, opening, held}
+use Rattle.lua_tree.proofs.Heights.{raised, node_in}
 
 pub one_deep : (x : Limit) (c : Counts) → deep (suc (c nodes)) x ≡ node x (c x)
 one_deep breaks c = refl

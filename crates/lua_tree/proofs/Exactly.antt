@@ -1,17 +1,16 @@
 -- What reading answers is exact, and nothing else is.
-use Rattle.std.proofs.Common.{ℕ, suc, ◌+◌, ◌≤◌, ◌<◌, ◌≡◌, ◌⊎◌, inl, inr, refl, sym, ap, ◌∙◌, subst, max, List, [], ◌∷◌, ◌++◌, Bool, true, false, arith, append_assoc}
+use Rattle.std.proofs.Common.{ℕ, ◌≤◌, ◌<◌, ◌≡◌, ◌⊎◌, inl, inr, refl, sym, ap, ◌∙◌, subst, List, [], ◌∷◌, ◌++◌, true, arith, append_assoc}
 use Rattle.std.proofs.lemmas.List.{append_cancel_right}
 use Rattle.lua_tree.specs.Tree.{Block}
 use Rattle.lua_tree.specs.Words as w
 use Rattle.lua_tree.specs.Words.{Word, key, Tok, tok, word_in}
 use Rattle.lua_tree.specs.Grammar.{Spells}
 use Rattle.lua_tree.specs.Attributes.{Limit, breaks, varargs, nodes, locals, calls, at_chunk, at_end, most_chunk}
-use Rattle.lua_tree.specs.Reading as r
-use Rattle.lua_tree.specs.Reading.{Needs, Limits, Keeps, Fault, unexpected, over, fault_number, Answer, got, stuck, Reads, ReadsChunk, a_block, chunk, program}
-use Rattle.lua_tree.specs.Faults.{Begins, Every, Tells, At, Clear, number_of, NoneLower, IsExact, Agree}
+use Rattle.lua_tree.specs.Reading.{Needs, Limits, Fault, unexpected, over, fault_number, got, stuck, ReadsChunk, a_block, chunk, program}
+use Rattle.lua_tree.specs.Faults.{Begins, Tells, At, Clear, number_of, NoneLower}
 use Rattle.lua_tree.specs.Laws.{OneChunk, ReadingIsExact, OneAnswer}
-use Rattle.lua_tree.proofs.Comes.{Comes, Does}
-use Rattle.lua_tree.proofs.Runs.{out, Outs, one, Alike, Blames, Kept, told, rest_of}
+use Rattle.lua_tree.proofs.Comes.{Comes}
+use Rattle.lua_tree.proofs.Runs.{out, one, Alike, Blames, told}
 use Rattle.lua_tree.proofs.Posts.{Post}
 use Rattle.lua_tree.proofs.Holds.{holds}
 use Rattle.lua_tree.proofs.Sound.{all_sound}

@@ -1,7 +1,7 @@
 -- One node more around a part adds one to its nodes, and nothing to what else is counted.
-use Rattle.std.proofs.Common.{ℕ, suc, ◌+◌, ◌≤◌, ◌≡◌, refl, max, arith}
+use Rattle.std.proofs.Common.{ℕ, suc, ◌+◌, ◌≤◌, ◌≡◌, max, arith}
 use Rattle.lua_tree.specs.Tree.{Expr, nil, true_, false_, number, str, dots, function, name, index, call, method, table, unary, binary, paren, Exprs, no_exprs, expr_and, Fields, no_fields, item_and, keyed_and, Func, func, Block, no_stats, stat_and, Stat, assign, local, call_stat, do_block, while_loop, repeat_loop, if_stat, num_for, num_for_by, gen_for, function_stat, local_function, return_stat, break_stat, Arms, no_else, else_block, arm_and}
-use Rattle.lua_tree.specs.Attributes.{Limit, breaks, varargs, nodes, locals, calls, Counts, under, node, at_call, at_end, named, declared, most, most_exprs, most_fields, most_func, most_block, most_stat, most_arms, height}
+use Rattle.lua_tree.specs.Attributes.{Limit, breaks, varargs, nodes, locals, calls, Counts, under, node, at_end, named, declared, most, most_exprs, most_fields, most_func, most_block, most_stat, most_arms, height}
 use Rattle.lua_tree.specs.Reading.{deep}
 
 mutual

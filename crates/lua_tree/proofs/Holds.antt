@@ -1,7 +1,7 @@
 -- Where each rule's program is such, what it reads is such.
-use Rattle.std.proofs.Common.{List, [], ◌∷◌, refl}
-use Rattle.lua_tree.specs.Words.{Tok, tok, word_of, spot_of}
-use Rattle.lua_tree.specs.Reading.{Sort, Value, Rule, Needs, Prog, program}
+use Rattle.std.proofs.Common.{List, refl}
+use Rattle.lua_tree.specs.Words.{Tok, word_of, spot_of}
+use Rattle.lua_tree.specs.Reading.{Sort, Value, Needs, Prog, program}
 use Rattle.lua_tree.proofs.Comes as c
 use Rattle.lua_tree.proofs.Comes.{Comes, both}
 use Rattle.lua_tree.proofs.Posts.{Post, wp, AllSound}

@@ -21,3 +21,4 @@ pub mod Names
 pub mod Exactly
 pub mod Precedence
 pub mod Rows
+pub mod FaultRows

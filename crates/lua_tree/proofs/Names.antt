@@ -1,10 +1,10 @@
 -- Locals are counted at names alone.
-use Rattle.std.proofs.Common.{ℕ, suc, ◌+◌, ◌≤◌, ◌<◌, ◌≡◌, ◌⊎◌, inl, inr, refl, sym, ap, ◌∙◌, subst, max, List, [], ◌∷◌, ◌++◌, Bool, true, false, arith, leb, cond}
-use Rattle.lua_tree.specs.Tree.{Bytes, BinOp, sub, Expr}
+use Rattle.std.proofs.Common.{ℕ, ◌<◌, ◌≡◌, ◌⊎◌, inl, inr, refl, sym, ◌∙◌, List, ◌∷◌, Bool, true, false, arith, leb, cond}
+use Rattle.lua_tree.specs.Tree.{Bytes, sub, Expr}
 use Rattle.lua_tree.specs.Words as w
 use Rattle.lua_tree.specs.Words.{Word, Key, key, Spot, Tok, tok, word_in, word_of, spot_of}
 use Rattle.lua_tree.specs.Grammar.{level}
-use Rattle.lua_tree.specs.Attributes.{Limit, locals, Counts}
+use Rattle.lua_tree.specs.Attributes.{locals, Counts}
 use Rattle.lua_tree.specs.Reading as r
 use Rattle.lua_tree.specs.Reading.{Sort, Value, Rule, Needs, Limits, Prog, Shape, a_var, a_call, a_paren, give, fail, take, look, expect, expect_name, at_last, then, shape, program, Fault, over, Answer, stuck, Reads, an_expr, some_targets, a_stat}
 use Rattle.lua_tree.proofs.Alive.{is_name}

@@ -1,5 +1,5 @@
 -- A program that has taken some tokens and hasn't come to an end.
-use Rattle.std.proofs.Common.{◌⊎◌, inl, inr, ℕ, ◌≤◌, ◌<◌, ◌≡◌, refl, sym, ap, ◌∙◌, subst, max, List, [], ◌∷◌, ◌++◌, arith, append_assoc}
+use Rattle.std.proofs.Common.{◌⊎◌, inl, inr, ◌≤◌, ◌<◌, ◌≡◌, refl, sym, ap, ◌∙◌, subst, List, [], ◌∷◌, ◌++◌, arith, append_assoc}
 use Rattle.std.proofs.lemmas.List.{append_cancel_right}
 use Rattle.lua_tree.specs.Tree.{Bytes}
 use Rattle.lua_tree.specs.Words as w
@@ -8,7 +8,7 @@ use Rattle.lua_tree.specs.Attributes.{Limit}
 use Rattle.lua_tree.specs.Reading as r
 use Rattle.lua_tree.specs.Reading.{Sort, Value, Rule, Needs, Limits, Keeps, Passes, Prog, give, fail, take, look, expect, expect_name, at_last, then, free, program, Fault, unexpected, over, fault_number, Answer, got, stuck, Reads}
 use Rattle.lua_tree.proofs.Comes.{Comes, both}
-use Rattle.lua_tree.proofs.Runs.{Alike, alike_front, Took, took, Kept, told, rest_of}
+use Rattle.lua_tree.proofs.Runs.{Alike, Took, took, Kept, told, rest_of}
 
 -- The program takes these tokens and then this one, whatever follows; they make so much unavoidable, that one's needs
 -- included.

@@ -1,14 +1,13 @@
 -- What is shown of each rule: what it reads is spelled, and what its tokens make unavoidable is what is counted in the tree.
-use Rattle.std.proofs.Common.{ℕ, suc, ◌+◌, ◌≤◌, ◌≡◌, max, length, List, [], ◌∷◌, Bool, true, false}
-use Rattle.lua_tree.specs.Tree.{Bytes, BinOp, Expr, name, Exprs, expr_and, Fields, Func, Block, Stat, local, Arms}
+use Rattle.std.proofs.Common.{ℕ, suc, ◌+◌, ◌≤◌, ◌≡◌, max, length, List, [], ◌∷◌}
+use Rattle.lua_tree.specs.Tree.{Bytes, BinOp, Expr, expr_and, local}
 use Rattle.lua_tree.specs.Words as w
 use Rattle.lua_tree.specs.Words.{Word, key, Spot, Tok, tok, word_of, spot_of}
-use Rattle.lua_tree.specs.Grammar.{level, unary_level, left_level, call_line, first_line, NotOpen, NameList, Params, NamePath, FuncName, Semi, Exp, Prefix, Var, Call, Args, ExpList, FieldList, MoreFields, Body, Stats, StatOf, LastOf, VarList, ArmsOf, MoreArms}
-use Rattle.lua_tree.specs.Attributes.{Limit, nodes, Counts, at_chunk, under, looped, named, node, at_end, declared, most, most_exprs, most_fields, most_func, most_block, most_stat, most_arms, most_chunk}
+use Rattle.lua_tree.specs.Grammar.{unary_level, left_level, call_line, first_line, NotOpen, NameList, Params, NamePath, FuncName, Semi, Exp, Prefix, Var, Args, ExpList, FieldList, MoreFields, Body, Stats, StatOf, LastOf, VarList, ArmsOf, MoreArms}
+use Rattle.lua_tree.specs.Attributes.{Limit, nodes, at_chunk, named, node, at_end, declared, most, most_exprs, most_fields, most_func, most_block, most_stat, most_arms, most_chunk}
 use Rattle.lua_tree.specs.Reading as r
 use Rattle.lua_tree.specs.Reading.{Sort, Value, Place, leading, Shape, shape, unfinished, Rule, Needs, Prog, give, fail, take, look, expect, expect_name, at_last, then, free, opening, held, in_loop, program}
-use Rattle.lua_tree.proofs.Comes as c
-use Rattle.lua_tree.proofs.Comes.{Comes, both}
+use Rattle.lua_tree.proofs.Comes.{both}
 use Rattle.lua_tree.proofs.Follow.{NotFrom, NotSuffix}
 
 -- the operand is spelled at the level that the operator behind it asks for, if one follows

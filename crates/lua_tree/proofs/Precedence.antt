@@ -1,6 +1,6 @@
 -- How operators bind.
-use Rattle.std.proofs.Common.{ℕ, ◌≤◌, ◌≡◌, List, [], ◌∷◌, arith}
-use Rattle.lua_tree.specs.Tree.{not_, negate, equal, concat, sub, pow, Expr, number, name, unary, binary, Block}
+use Rattle.std.proofs.Common.{List, [], ◌∷◌, arith}
+use Rattle.lua_tree.specs.Tree.{not_, negate, equal, concat, sub, pow, Expr, number, name, unary, binary}
 use Rattle.lua_tree.specs.Words as w
 use Rattle.lua_tree.specs.Words.{Word, key}
 use Rattle.lua_tree.specs.Grammar.{Exp, number_exp, prefix_exp, binary_exp, unary_exp, var_prefix, name_var, one_exp, last_stat, return_with_of, no_semi}

@@ -1,11 +1,11 @@
 -- Laws of programs, whatever they are: there is one outcome, nothing behind the next token is looked at, and where reading is
 -- stuck, nothing that begins so comes to an end within the limits.
-use Rattle.std.proofs.Common.{ℕ, suc, ◌+◌, ◌≤◌, ◌<◌, ◌≡◌, refl, sym, ap, ◌∙◌, subst, max, List, [], ◌∷◌, ◌++◌, arith, append_assoc}
+use Rattle.std.proofs.Common.{◌≤◌, ◌<◌, ◌≡◌, refl, sym, ap, ◌∙◌, subst, List, [], ◌∷◌, ◌++◌, arith, append_assoc}
 use Rattle.lua_tree.specs.Tree.{Bytes}
 use Rattle.lua_tree.specs.Words as w
 use Rattle.lua_tree.specs.Words.{Word, Key, key, Spot, Tok, tok, word_in, spot_in, word_of, spot_of}
 use Rattle.lua_tree.specs.Attributes.{Limit}
-use Rattle.lua_tree.specs.Reading.{Sort, Value, Rule, Needs, Limits, Keeps, Passes, Prog, give, fail, take, look, expect, expect_name, at_last, then, free, program, Fault, unexpected, over, Answer, got, stuck, Reads, gives, fails, takes, passes, none_left, looks, expects, not_that, expects_name, no_name, is_last, not_last, thens, stops}
+use Rattle.lua_tree.specs.Reading.{Sort, Value, Rule, Needs, Limits, Keeps, Prog, give, fail, take, look, expect, expect_name, at_last, then, free, program, Fault, unexpected, over, Answer, got, stuck, Reads, gives, fails, takes, passes, none_left, looks, expects, not_that, expects_name, no_name, is_last, not_last, thens, stops}
 use Rattle.lua_tree.proofs.Comes as c
 use Rattle.lua_tree.proofs.Comes.{Comes, both}
 

@@ -1,9 +1,6 @@
 -- What is read is spelled, and what its tokens make unavoidable is what is counted in it.
-use Rattle.std.proofs.Common.{ℕ, ◌≡◌, max, List, []}
-use Rattle.lua_tree.specs.Tree.{Block}
+use Rattle.std.proofs.Common.{List}
 use Rattle.lua_tree.specs.Words.{Tok}
-use Rattle.lua_tree.specs.Grammar.{Spells}
-use Rattle.lua_tree.specs.Attributes.{Limit}
 use Rattle.lua_tree.specs.Reading as r
 use Rattle.lua_tree.specs.Reading.{Sort, Value, Rule, Needs, a_block, program}
 use Rattle.lua_tree.proofs.Comes.{Comes}

@@ -1,17 +1,16 @@
 -- What the rules of expressions read is spelled, and what is made unavoidable is what is counted.
-use Rattle.std.proofs.Common.{ℕ, suc, ◌+◌, ◌≤◌, ◌<◌, ◌≡◌, refl, sym, ap, ◌∙◌, subst, max, T, not, leb, leb→le, le→leb, cond, length, List, [], ◌∷◌, Bool, true, false, arith}
-use Rattle.lua_tree.specs.Tree.{Bytes, UnOp, not_, length_of, negate, BinOp, or_, and_, less, greater, less_equal, greater_equal, not_equal, equal, concat, add, sub, mul, div, mod_, pow, Expr, nil, str, name, index, call, method, table, unary, binary, paren, Exprs, no_exprs, expr_and, Fields, item_and, keyed_and, Func}
+use Rattle.std.proofs.Common.{ℕ, suc, ◌+◌, ◌≤◌, ◌<◌, ◌≡◌, refl, sym, ap, ◌∙◌, subst, max, T, leb, leb→le, cond, List, [], ◌∷◌, Bool, true, false, arith}
+use Rattle.lua_tree.specs.Tree.{Bytes, UnOp, not_, length_of, negate, BinOp, or_, and_, less, greater, less_equal, greater_equal, not_equal, equal, concat, add, sub, mul, div, mod_, pow, Expr, str, name, unary, binary, item_and, keyed_and}
 use Rattle.lua_tree.specs.Words as w
 use Rattle.lua_tree.specs.Words.{Word, key, Spot, Tok, tok, word_of, spot_of}
-use Rattle.lua_tree.specs.Grammar.{level, unary_level, left_level, right_level, call_line, NotOpen, IsUnary, Exp, nil_exp, true_exp, false_exp, number_exp, str_exp, dots_exp, function_exp, prefix_exp, table_exp, binary_exp, unary_exp, Prefix, var_prefix, call_prefix, paren_prefix, name_var, index_var, dot_var, plain_call, method_call, Args, no_args, list_args, table_args, str_args, ExpList, one_exp, exp_and, FieldList, no_field, item_field, keyed_field, named_field, MoreFields, no_more, separated}
-use Rattle.lua_tree.specs.Attributes.{Limit, nodes, Counts, under, node, at_call, at_end, most, most_exprs, most_fields, height}
+use Rattle.lua_tree.specs.Grammar.{level, unary_level, left_level, right_level, NotOpen, IsUnary, Exp, nil_exp, true_exp, false_exp, number_exp, str_exp, dots_exp, function_exp, prefix_exp, table_exp, binary_exp, unary_exp, Prefix, var_prefix, call_prefix, paren_prefix, name_var, index_var, dot_var, plain_call, method_call, Args, no_args, list_args, table_args, str_args, ExpList, one_exp, exp_and, FieldList, no_field, item_field, keyed_field, named_field, no_more, separated}
+use Rattle.lua_tree.specs.Attributes.{Limit, nodes, Counts, under, node, at_call, most, most_exprs, height}
 use Rattle.lua_tree.specs.Reading as r
 use Rattle.lua_tree.specs.Reading.{an_expr, an_args, some_exprs, some_fields, Place, in_expr, Shape, a_var, a_call, a_paren, shape, unfinished, Needs, Prog, give, take, then, deep, opening, held, down, called, first_of, more_of, prefix_of, suffixes_of, args_of, paren_args_of, more_exprs_of, fields_of, name_field_of, more_fields_of, program}
 use Rattle.lua_tree.proofs.Follow.{NotFrom, NotSuffix}
 use Rattle.lua_tree.proofs.Heights.{pushed, node_in, one_high}
 use Rattle.lua_tree.proofs.Counting.{one_deep, two_deep, dots_need, node_under, node_below, pushed_held, opened, deep_opening, node_opening, end_none}
-use Rattle.lua_tree.proofs.Comes.{both}
-use Rattle.lua_tree.proofs.Posts.{Ready, Post, wp}
+use Rattle.lua_tree.proofs.Posts.{Post, wp}
 
 -- ---- levels
 

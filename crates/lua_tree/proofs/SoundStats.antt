@@ -1,17 +1,16 @@
 -- What the rules of statements read is spelled, and what is made unavoidable is what is counted.
-use Rattle.std.proofs.Common.{ℕ, suc, ◌+◌, ◌≤◌, ◌≡◌, refl, sym, ap, ◌∙◌, subst, max, length, length-append, List, [], ◌∷◌, ◌++◌, Bool, true, false, arith}
-use Rattle.lua_tree.specs.Tree.{Bytes, Expr, str, name, index, call, method, Exprs, no_exprs, expr_and, Func, func, Block, no_stats, stat_and, Stat, assign, local, call_stat, do_block, while_loop, repeat_loop, if_stat, num_for, num_for_by, gen_for, function_stat, local_function, return_stat, break_stat, Arms, no_else, else_block, arm_and}
+use Rattle.std.proofs.Common.{ℕ, suc, ◌+◌, ◌≤◌, ◌≡◌, refl, sym, ap, ◌∙◌, subst, max, length, length-append, List, [], ◌∷◌, ◌++◌, Bool, true, arith}
+use Rattle.lua_tree.specs.Tree.{Bytes, Expr, Exprs, no_exprs, expr_and, func, no_stats, assign, local, call_stat, num_for, num_for_by, gen_for, function_stat, local_function, return_stat, Arms}
 use Rattle.lua_tree.specs.Words as w
 use Rattle.lua_tree.specs.Words.{Word, key, Spot, Tok, tok, word_of, spot_of}
-use Rattle.lua_tree.specs.Grammar.{first_line, NotOpen, self, NameList, one_name, name_and, Params, no_params, only_dots, only_names, names_dots, NamePath, one_path, dot_path, FuncName, plain_name, method_name, Semi, no_semi, a_semi, Exp, Prefix, var_prefix, call_prefix, paren_prefix, Var, name_var, index_var, dot_var, Call, plain_call, method_call, ExpList, one_exp, exp_and, Body, body, Stats, no_stat, a_stat, last_stat, StatOf, assign_of, call_of, do_of, while_of, repeat_of, if_of, num_for_of, num_for_by_of, gen_for_of, function_of, local_function_of, local_of, local_with_of, LastOf, return_of, return_with_of, break_of, VarList, one_var, var_and, ArmsOf, arm_of, MoreArms, elseif_of, else_of, end_of}
-use Rattle.lua_tree.specs.Attributes.{Limit, breaks, varargs, nodes, locals, calls, Counts, at_chunk, under, looped, named, inside, node, at_end, declared, most, most_exprs, most_func, most_block, most_stat, most_arms, height}
+use Rattle.lua_tree.specs.Grammar.{first_line, NameList, one_name, name_and, Params, no_params, only_dots, only_names, names_dots, NamePath, one_path, dot_path, plain_name, method_name, no_semi, a_semi, Exp, Prefix, var_prefix, call_prefix, paren_prefix, Var, name_var, index_var, dot_var, Call, plain_call, method_call, ExpList, one_exp, exp_and, Body, body, Stats, no_stat, a_stat, last_stat, StatOf, assign_of, call_of, do_of, while_of, repeat_of, if_of, num_for_of, num_for_by_of, gen_for_of, function_of, local_function_of, local_of, local_with_of, LastOf, return_of, return_with_of, break_of, VarList, one_var, var_and, ArmsOf, arm_of, elseif_of, else_of, end_of}
+use Rattle.lua_tree.specs.Attributes.{Limit, breaks, varargs, nodes, locals, calls, Counts, under, named, node, at_end, declared, most, most_exprs, most_block, most_arms}
 use Rattle.lua_tree.specs.Reading as r
 use Rattle.lua_tree.specs.Reading.{some_exprs, some_targets, a_func, a_block, a_stat, some_arms, some_names, some_params, a_target, a_semi, leading, targeted, Shape, a_var, a_call, a_paren, shape, unfinished, Needs, Prog, give, take, then, expect, expect_name, free, deep, many, held, down, in_loop, in_body, behind, with_last, with_stat, prefix_stat_of, target_of, program}
-use Rattle.lua_tree.proofs.Follow.{NotSuffix}
-use Rattle.lua_tree.proofs.Heights.{pushed, node_in, one_high, named_up, scope_in}
-use Rattle.lua_tree.proofs.Counting.{one_deep, two_deep, break_need, many_is, many_more, end_up, end_of_named, end_of_looped, end_under, end_at, end_inside, node_under, node_below, end_none}
+use Rattle.lua_tree.proofs.Heights.{pushed, node_in}
+use Rattle.lua_tree.proofs.Counting.{one_deep, break_need, many_is, many_more, end_up, end_of_named, end_of_looped, end_under, end_at, end_inside, node_below, end_none}
 use Rattle.lua_tree.proofs.Comes.{both}
-use Rattle.lua_tree.proofs.Posts.{Ready, Post, wp}
+use Rattle.lua_tree.proofs.Posts.{Post, wp}
 use Rattle.lua_tree.proofs.SoundExprs.{not_open}
 
 -- ---- names and parameters

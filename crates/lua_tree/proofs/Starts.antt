@@ -1,6 +1,6 @@
 -- What the parts of a source begin with, and so what may stand behind a part.
-use Rattle.std.proofs.Common.{ℕ, ◌≡◌, refl, List, [], ◌∷◌}
-use Rattle.lua_tree.specs.Tree.{Bytes, UnOp, not_, length_of, negate, BinOp, or_, and_, less, greater, less_equal, greater_equal, not_equal, equal, concat, add, sub, mul, div, mod_, pow, Expr, Exprs, Fields, Stat, Block, Arms}
+use Rattle.std.proofs.Common.{ℕ, List, ◌∷◌}
+use Rattle.lua_tree.specs.Tree.{UnOp, not_, length_of, negate, sub, Expr, Exprs, Fields, Stat, Block, Arms}
 use Rattle.lua_tree.specs.Words as w
 use Rattle.lua_tree.specs.Words.{Word, key, Tok, tok, word_of}
 use Rattle.lua_tree.specs.Grammar

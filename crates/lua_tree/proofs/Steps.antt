@@ -1,14 +1,14 @@
 -- How programs that do something are put together.
-use Rattle.std.proofs.Common.{ℕ, ◌≤◌, ◌<◌, ◌≡◌, refl, arith, List, [], ◌∷◌, true, false}
-use Rattle.std.specs.Prelude.{leb, cond}
-use Rattle.lua_tree.specs.Tree.{Bytes, BinOp, Expr}
+use Rattle.std.proofs.Common.{ℕ, ◌≤◌, ◌<◌, ◌≡◌, arith, List, [], ◌∷◌, true, false}
+use Rattle.std.specs.Prelude.{leb}
+use Rattle.lua_tree.specs.Tree.{Bytes, Expr}
 use Rattle.lua_tree.specs.Words as w
 use Rattle.lua_tree.specs.Words.{Word, Key, key, Spot, Tok, tok, word_of, spot_of}
 use Rattle.lua_tree.specs.Grammar.{level}
 use Rattle.lua_tree.specs.Attributes.{Counts}
-use Rattle.lua_tree.specs.Reading.{Sort, Value, Rule, Needs, Prog, give, fail, take, look, expect, expect_name, at_last, then, free, program, an_expr, some_exprs, more, more_of, suffixes, suffixes_of, Place, more_exprs, more_exprs_of}
-use Rattle.lua_tree.proofs.Comes.{both, Comes, gives, takes, looks, expects, expects_name, is_last, thens, Does, Leads}
-use Rattle.lua_tree.proofs.Follow.{NotFrom, NotSuffix, Stops, NotComma}
+use Rattle.lua_tree.specs.Reading.{Sort, Value, Rule, Needs, Prog, give, take, look, expect, expect_name, then, free, program, an_expr, more, suffixes, Place}
+use Rattle.lua_tree.proofs.Comes.{both, gives, takes, looks, expects, expects_name, thens, Does}
+use Rattle.lua_tree.proofs.Follow.{NotFrom, NotSuffix, Stops}
 
 pub does_give : {s : Sort} {a : Value s} {ts : List Tok} → Does s (give a) ts a ts
 does_give = (free, gives)

@@ -1,9 +1,9 @@
 -- What follows an expression is none of its own operators and suffixes.
-use Rattle.std.proofs.Common.{ℕ, suc, ◌≤◌, ◌<◌, ◌≡◌, ◌+◌, ◌⊎◌, inl, inr, refl, arith, List, [], ◌∷◌}
+use Rattle.std.proofs.Common.{ℕ, ◌≤◌, ◌<◌, ◌≡◌, ◌+◌, ◌⊎◌, inl, inr, refl, arith, List, ◌∷◌}
 use Rattle.lua_tree.specs.Tree.{BinOp, or_, and_, less, greater, less_equal, greater_equal, not_equal, equal, concat, add, sub, mul, div, mod_, pow, Expr}
 use Rattle.lua_tree.specs.Words as w
 use Rattle.lua_tree.specs.Words.{Word, key, Tok, tok, word_of}
-use Rattle.lua_tree.specs.Grammar.{level, left_level, right_level, unary_level, NotOpen, Exp, nil_exp, true_exp, false_exp, number_exp, str_exp, dots_exp, function_exp, prefix_exp, table_exp, binary_exp, unary_exp, Prefix, var_prefix, call_prefix, paren_prefix, Var, name_var, index_var, dot_var, Call, plain_call, method_call}
+use Rattle.lua_tree.specs.Grammar.{level, left_level, right_level, unary_level, NotOpen, Exp, nil_exp, true_exp, false_exp, number_exp, str_exp, dots_exp, function_exp, prefix_exp, table_exp, binary_exp, unary_exp, Prefix, var_prefix, call_prefix, paren_prefix, name_var, index_var, dot_var, plain_call, method_call}
 use Rattle.lua_tree.proofs.Follow.{NotFrom, NotSuffix, Stops, Tail}
 
 -- ---- levels

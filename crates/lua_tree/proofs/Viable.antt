@@ -1,21 +1,20 @@
 -- Wherever reading stands behind a token that it took, some tokens bring the chunk to its end, and make nothing more
 -- unavoidable than what was taken.
-use Rattle.std.proofs.Common.{ℕ, zero, suc, ◌+◌, ◌≤◌, ◌<◌, ◌≡◌, refl, sym, ap, ◌∙◌, subst, max, List, [], ◌∷◌, ◌++◌, length, Bool, true, false, arith, leb, cond}
-use Rattle.lua_tree.specs.Tree.{Bytes, BinOp, sub, Expr, nil, name, call, index, str, method, paren, binary, Exprs, no_exprs, expr_and, Fields, no_fields, item_and, keyed_and, Func, func, Block, no_stats, stat_and, Stat, assign, local, call_stat, repeat_loop, gen_for, function_stat, Arms, no_else, arm_and}
+use Rattle.std.proofs.Common.{ℕ, suc, ◌+◌, ◌≤◌, ◌≡◌, refl, sym, subst, max, List, [], ◌∷◌, ◌++◌, length, Bool, true, false, arith, leb, cond}
+use Rattle.lua_tree.specs.Tree.{Bytes, sub, Expr, nil, name, call, index, str, method, paren, binary, Exprs, no_exprs, expr_and, Fields, item_and, keyed_and, Block, stat_and, Stat, assign, local, call_stat, repeat_loop, gen_for, function_stat, arm_and}
 use Rattle.lua_tree.specs.Words as w
 use Rattle.lua_tree.specs.Words.{Word, Key, key, Spot, Tok, tok, nowhere, word_in, word_of, spot_of}
 use Rattle.lua_tree.specs.Grammar.{level, unary_level, right_level, NotOpen, call_line}
-use Rattle.lua_tree.specs.Attributes.{Limit, breaks, varargs, nodes, locals, calls, Counts, node, under, most, most_exprs, height, at_call}
+use Rattle.lua_tree.specs.Attributes.{Limit, breaks, varargs, nodes, locals, calls, Counts, most_exprs, height}
 use Rattle.lua_tree.specs.Reading as r
 use Rattle.lua_tree.specs.Reading.{Sort, Value, Rule, Needs, Prog, Place, in_expr, leading, targeted, Shape, a_var, a_call, a_paren, give, fail, take, look, expect, expect_name, at_last, then, free, deep, many, opening, held, down, shape, unfinished, program, an_expr, an_args, some_exprs, some_fields, a_func, a_block, a_stat, some_arms, some_names, some_params, a_target, some_targets, a_semi}
 use Rattle.lua_tree.proofs.Comes.{Comes, is_last, both}
-use Rattle.lua_tree.proofs.Follow.{Stops, NotComma, EndsBlock}
+use Rattle.lua_tree.proofs.Follow.{Stops}
 use Rattle.lua_tree.proofs.Heights.{raised, node_in, one_high}
-use Rattle.lua_tree.proofs.Counting.{one_deep, two_deep}
 use Rattle.lua_tree.proofs.Posts.{AllSound}
 use Rattle.lua_tree.proofs.Partly.{Partly}
-use Rattle.lua_tree.proofs.Alive.{Counted, is_name, Within, Up, BehindExp, BehindList, IsAssign, Behind, Good, Has, Base, Cost, Closed, Shut, alive, AllAlive, Done, done}
-use Rattle.lua_tree.proofs.Closers.{close_give, close_then, close_key, close_name, shut_give, shut_key, shut_any, shut_last, free_within, has_deep, deep_within, Any, Each, Finished, finished, closed_expr, closed_more, closed_first, closed_prefix, closed_suffixes, closed_args, closed_paren_args, closed_exprs, closed_more_exprs, closed_fields, closed_more_fields, closed_name_field, closed_params, closed_next_param, closed_more_params, closed_func_body, closed_func_name, closed_block, closed_semi, closed_init, closed_return_rest, closed_more_names, closed_more_targets, closed_loop_block, closed_more_arms, closed_arms, closed_num_for_rest, closed_for_rest, closed_local_rest, many_false, Ends, Assigns, BehindNames, ends_comma, ends_stop, ends_open}
+use Rattle.lua_tree.proofs.Alive.{Counted, is_name, Up, BehindExp, BehindList, IsAssign, Behind, Good, Has, Base, Cost, Closed, Shut, alive, AllAlive, done}
+use Rattle.lua_tree.proofs.Closers.{close_give, close_then, close_key, close_name, shut_give, shut_key, shut_any, shut_last, free_within, deep_within, Any, Each, Finished, finished, closed_expr, closed_more, closed_prefix, closed_suffixes, closed_args, closed_paren_args, closed_exprs, closed_more_exprs, closed_fields, closed_more_fields, closed_name_field, closed_params, closed_next_param, closed_more_params, closed_func_body, closed_func_name, closed_block, closed_semi, closed_init, closed_return_rest, closed_more_names, closed_more_targets, closed_loop_block, closed_more_arms, closed_arms, closed_num_for_rest, closed_for_rest, closed_local_rest, many_false, Ends, Assigns, BehindNames, ends_comma, ends_stop, ends_open}
 
 -- ---- what was unavoidable
 

@@ -1,6 +1,6 @@
 -- What is spelled is read: one induction on what is spelled.
-use Rattle.std.proofs.Common.{ℕ, zero, suc, ◌≤◌, ◌≡◌, refl, arith, le_refl, length, Bool, true, false, List, [], ◌∷◌, ◌++◌}
-use Rattle.lua_tree.specs.Tree.{Bytes, UnOp, not_, length_of, negate, BinOp, sub, Expr, nil, true_, false_, number, str, dots, function, name, index, call, method, table, unary, binary, paren, Exprs, no_exprs, expr_and, Fields, no_fields, item_and, keyed_and, Func, func, Block, no_stats, stat_and, Stat, assign, local, call_stat, do_block, while_loop, repeat_loop, if_stat, num_for, num_for_by, gen_for, function_stat, local_function, return_stat, break_stat, Arms, no_else, else_block, arm_and}
+use Rattle.std.proofs.Common.{ℕ, suc, ◌≤◌, arith, le_refl, length, Bool, true, false, List, [], ◌∷◌, ◌++◌}
+use Rattle.lua_tree.specs.Tree.{Bytes, UnOp, not_, length_of, negate, BinOp, sub, Expr, str, name, index, unary, binary, Exprs, no_exprs, Fields, item_and, func, Block, no_stats, stat_and, Stat, local, call_stat, gen_for, return_stat, Arms}
 use Rattle.lua_tree.specs.Words as w
 use Rattle.lua_tree.specs.Words.{Word, Key, key, Spot, Tok, tok, word_of, spot_of}
 use Rattle.lua_tree.specs.Grammar as g
@@ -10,11 +10,11 @@ use Rattle.lua_tree.specs.Attributes.{Counts}
 use Rattle.lua_tree.specs.Reading
 use Rattle.lua_tree.specs.Reading.{Value, Rule, Prog, give, then, expect, expect_name, program, free, an_expr, an_args, some_exprs, some_fields, a_func, a_block, a_stat, some_arms, some_names, some_params, a_target, a_semi, Place, in_expr, leading, targeted, down}
 use Rattle.lua_tree.proofs.Comes.{Comes, gives, takes, looks, thens, is_last, Does, Leads}
-use Rattle.lua_tree.proofs.Follow.{NotFrom, NotSuffix, Stops, NotComma, Tail, EndsBlock, StartsStat, FollowsStat}
-use Rattle.lua_tree.proofs.WholeIs.{ExpLeads, PrefixLeads, ExpListDoes, StatsDoes, StatDoes, ChunkDoes}
-use Rattle.lua_tree.proofs.Tails.{left_from, Apart, stops_apart, prefix_tail, tail, tail_left}
+use Rattle.lua_tree.proofs.Follow.{NotSuffix, Stops, NotComma, Tail, EndsBlock, StartsStat, FollowsStat}
+use Rattle.lua_tree.proofs.WholeIs.{ChunkDoes}
+use Rattle.lua_tree.proofs.Tails.{left_from, stops_apart, tail, tail_left}
 use Rattle.lua_tree.proofs.Steps.{does_give, does_take, does_look, does_expect, does_expect_name, does_then, does_last, leb_true, more_gives, suffixes_give, stops_from}
-use Rattle.lua_tree.proofs.Starts.{StartsPrefix, prefix_starts, var_starts, call_starts, StartsExp, exp_starts, list_starts, vars_start, stat_starts, StartsBlock, block_starts, semi_follows, FollowsLast, semi_last, last_follows, arms_end, follows_stop, follows_comma, call_suffix, FollowsField, fields_follow, field_stops}
+use Rattle.lua_tree.proofs.Starts.{StartsPrefix, prefix_starts, var_starts, call_starts, StartsExp, exp_starts, list_starts, stat_starts, StartsBlock, block_starts, semi_follows, FollowsLast, semi_last, last_follows, arms_end, follows_stop, follows_comma, call_suffix, FollowsField, fields_follow, field_stops}
 
 -- ---- names
 

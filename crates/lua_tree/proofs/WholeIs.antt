@@ -1,11 +1,11 @@
 -- What is to be shown of spelled tokens: that the rules read them.
-use Rattle.std.proofs.Common.{ℕ, ◌≤◌, List, [], ◌∷◌}
+use Rattle.std.proofs.Common.{ℕ, ◌≤◌, List, []}
 use Rattle.lua_tree.specs.Tree.{Expr, Exprs, Block, Stat}
 use Rattle.lua_tree.specs.Words.{Tok, word_of}
 use Rattle.lua_tree.specs.Grammar.{Exp, Prefix, ExpList, Stats, StatOf, Spells}
 use Rattle.lua_tree.specs.Attributes.{Counts}
 use Rattle.lua_tree.specs.Reading.{Place, an_expr, some_exprs, a_block, a_stat, expr, more, prefix, suffixes, exprs, block, stat, chunk, program}
-use Rattle.lua_tree.proofs.Comes.{Comes, Does, Leads}
+use Rattle.lua_tree.proofs.Comes.{Does, Leads}
 use Rattle.lua_tree.proofs.Follow.{Stops, NotComma, Tail, EndsBlock, FollowsStat}
 
 -- an expression of a tight enough level goes through, up to what follows an operand of the level asked for

@@ -4,7 +4,7 @@ use Rattle.lua_tree.specs.Tree.{Block}
 use Rattle.lua_tree.specs.Words as w
 use Rattle.lua_tree.specs.Words.{Word, key, Tok, tok}
 use Rattle.lua_tree.specs.Grammar.{Spells}
-use Rattle.lua_tree.specs.Attributes.{Limit, breaks, varargs, nodes, locals, calls, most_chunk}
+use Rattle.lua_tree.specs.Attributes.{Limit, locals, most_chunk}
 use Rattle.lua_tree.specs.Reading.{Limits, Fault, unexpected, over, fault_number, Answer, got, stuck}
 
 -- some chunk's tokens begin so

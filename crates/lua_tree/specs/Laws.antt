@@ -1,8 +1,8 @@
 -- The laws of the grammar.
-use Rattle.std.specs.Prelude.{ℕ, ◌≡◌, List}
-use Rattle.lua_tree.specs.Tree.{Expr, Block}
+use Rattle.std.specs.Prelude.{◌≡◌, List}
+use Rattle.lua_tree.specs.Tree.{Block}
 use Rattle.lua_tree.specs.Words.{Tok}
-use Rattle.lua_tree.specs.Grammar.{Exp, Spells}
+use Rattle.lua_tree.specs.Grammar.{Spells}
 use Rattle.lua_tree.specs.Reading.{Limits, Answer, ReadsChunk}
 use Rattle.lua_tree.specs.Faults.{IsExact, Agree}
 

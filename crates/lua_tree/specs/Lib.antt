@@ -7,3 +7,4 @@ pub mod Faults
 pub mod Laws
 pub mod Precedence
 pub mod Rows
+pub mod FaultRows

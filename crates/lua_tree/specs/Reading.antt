@@ -1,7 +1,7 @@
 -- Reading by descent (Lua 5.1 manual §2.2 to §2.5, §8): for each rule a program that looks at the next word, takes tokens
 -- and calls other rules. Each token that is taken says how much of what is limited it makes unavoidable.
-use Rattle.std.specs.Prelude.{ℕ, zero, suc, ◌+◌, ◌≡◌, ◌<◌, ◌≤◌, leb, cond, length, Bool, true, false, List, [], ◌∷◌, ◌++◌}
-use Rattle.lua_tree.specs.Tree.{Bytes, UnOp, not_, length_of, negate, BinOp, sub, Expr, nil, true_, false_, number, str, dots, function, name, index, call, method, table, unary, binary, paren, Exprs, no_exprs, expr_and, Fields, no_fields, item_and, keyed_and, Func, func, Block, no_stats, stat_and, Stat, assign, local, call_stat, do_block, while_loop, repeat_loop, if_stat, num_for, num_for_by, gen_for, function_stat, local_function, return_stat, break_stat, Arms, no_else, else_block, arm_and}
+use Rattle.std.specs.Prelude.{ℕ, suc, ◌+◌, ◌≡◌, ◌<◌, ◌≤◌, leb, cond, length, Bool, true, false, List, [], ◌∷◌, ◌++◌}
+use Rattle.lua_tree.specs.Tree.{Bytes, not_, length_of, negate, sub, Expr, nil, true_, false_, number, str, dots, function, name, index, call, method, table, unary, binary, paren, Exprs, no_exprs, expr_and, Fields, no_fields, item_and, keyed_and, Func, func, Block, no_stats, stat_and, Stat, assign, local, call_stat, do_block, while_loop, repeat_loop, if_stat, num_for, num_for_by, gen_for, function_stat, local_function, return_stat, break_stat, Arms, no_else, else_block, arm_and}
 use Rattle.lua_tree.specs.Words as w
 use Rattle.lua_tree.specs.Words.{Word, Key, key, Spot, Tok, tok, word_of, spot_of}
 use Rattle.lua_tree.specs.Grammar.{level, unary_level, right_level, call_line, self}

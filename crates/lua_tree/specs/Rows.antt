@@ -1,7 +1,7 @@
 -- Rows on what is counted: trees that the sources spell, and the most that is counted in them.
-use Rattle.std.specs.Prelude.{ℕ, zero, suc, ◌≡◌, ℤ, Bool, true, false, List, [], ◌∷◌}
-use Rattle.lua_tree.specs.Tree.{Bytes, add, concat, Expr, number, name, call, function, paren, binary, no_exprs, expr_and, func, Block, no_stats, stat_and, return_stat, local, do_block, break_stat, while_loop, call_stat, if_stat, Arms, no_else, arm_and}
-use Rattle.lua_tree.specs.Attributes.{Limit, breaks, varargs, nodes, locals, calls, most_chunk}
+use Rattle.std.specs.Prelude.{ℕ, zero, suc, ◌≡◌, ℤ, false, [], ◌∷◌}
+use Rattle.lua_tree.specs.Tree.{Bytes, add, Expr, number, name, function, paren, binary, no_exprs, expr_and, func, Block, no_stats, stat_and, return_stat, local, do_block, break_stat, while_loop, if_stat, Arms, no_else, arm_and}
+use Rattle.lua_tree.specs.Attributes.{breaks, nodes, locals, most_chunk}
 
 -- the chunk that returns this value
 abbrev pub returns : Expr → Block

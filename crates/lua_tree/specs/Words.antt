@@ -1,5 +1,5 @@
 -- The tokens that the grammar is over: words, each with the spot where it stands.
-use Rattle.std.specs.Prelude.{ℕ, ℤ, Bool, true, false, List, [], ◌∷◌}
+use Rattle.std.specs.Prelude.{ℕ, ℤ, Bool, false, List, [], ◌∷◌}
 use Rattle.lua_tree.specs.Tree.{Bytes, BinOp}
 
 -- keywords and symbols that are no binary operators

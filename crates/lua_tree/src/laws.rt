@@ -2,6 +2,7 @@
 
 ghost use Rattle.lua_tree.specs.Laws.{OneChunk, ReadingIsExact, OneAnswer};
 ghost use Rattle.lua_tree.specs.Rows.{Sums, Parens, Locals, Blocks, Arms300, Ends, Breaks};
+ghost use Rattle.lua_tree.specs.FaultRows.{BreakAlone, NameBehindReturn, DotsInside, CallOnNextLine};
 ghost use Rattle.lua_tree.specs.Precedence.{PowerOfMinus, MinusOfPower, ConcatToTheRight, MinusToTheLeft, NotBindsTighter};
 
 /// A list of tokens spells at most one chunk.
@@ -38,4 +39,12 @@ pub fn counted()
     ensures arms { Arms300 }
     ensures ends { Ends }
     ensures breaks { Breaks }
+{}
+
+/// The exact answers for short sources.
+pub fn faults()
+    ensures break_alone { BreakAlone }
+    ensures name_behind_return { NameBehindReturn }
+    ensures dots_inside { DotsInside }
+    ensures call_on_next_line { CallOnNextLine }
 {}
