@@ -10,6 +10,7 @@ mod mark;
 mod matcher;
 mod pattern;
 mod reader;
+mod replacement;
 mod set;
 mod start;
 mod walk;
@@ -17,6 +18,7 @@ mod walk;
 pub use fault::PatternFault;
 pub use found::{Capture, Match};
 pub use pattern::Pattern;
+pub use replacement::ReplaceFault;
 pub use walk::Walk;
 
 #[cfg(test)]

@@ -210,3 +210,46 @@ fn faults_have_texts(rt: HostRuntime) -> Result<(), Fail> {
     }
     Ok(())
 }
+
+// Texts, patterns, replacement strings and how many matches may be replaced, with what lua5.1's
+// string.gsub gives.
+const REPLACED: [(&[u8], &[u8], &[u8], usize, &[u8], usize); 8] = [
+    (b"abc", b"%w*", b"x", 9, b"xx", 2),
+    (b"hello world", b"%w+", b"%0-%1", 1, b"hello-hello world", 1),
+    (b"abc", b"", b"-", 9, b"-a-b-c-", 4),
+    (b"aab", b"^a", b"x", 9, b"xab", 1),
+    (b"abc", b"(b)()", b"[%1%2%%%.]", 9, b"a[b3%.]c", 1),
+    (b"abab", b"a", b"", 9, b"bb", 2),
+    (b"abc", b"b", b"x", 0, b"abc", 0),
+    (b"abc", b"x", b"%", 9, b"abc", 0),
+];
+
+#[test]
+fn replaces(rt: HostRuntime) -> Result<(), Fail> {
+    for (text, source, replacement, limit, want, count) in REPLACED {
+        let pattern = Pattern::read(rt.alloc(), source, true)?;
+        let (made, replaced) = pattern.gsub(rt.alloc(), text, replacement, limit)?;
+        assert_eq!(rt; made.bytes(), want, "{source:?}");
+        assert_eq!(rt; replaced, count, "{source:?}");
+    }
+    Ok(())
+}
+
+#[test]
+fn refuses_replacements(rt: HostRuntime) -> Result<(), Fail> {
+    let pattern = Pattern::read(rt.alloc(), b"(b)", true)?;
+    for (replacement, want, text) in [
+        (
+            b"x%",
+            ReplaceFault::InvalidReplacement,
+            "invalid replacement",
+        ),
+        (b"%2", ReplaceFault::InvalidCapture, "invalid capture"),
+    ] {
+        let fault = pattern.gsub(rt.alloc(), b"ab", replacement, 9).err();
+        assert_eq!(rt; fault, Some(want), "{replacement:?}");
+        let line = format!(in rt.alloc(); "{want}")?;
+        assert_eq!(rt; line.as_str(), text);
+    }
+    Ok(())
+}
