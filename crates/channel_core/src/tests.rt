@@ -1,5 +1,4 @@
-ghost use Rattle.std.specs.Prelude.{◌≡◌, ◌+◌, ◌<◌, ◌^◌, length, IsTrue, IfOk, Option};
-ghost use Rattle.channel_core.specs.History.{holder};
+ghost use Rattle.std.specs.Prelude.{◌≡◌, ◌+◌, ◌<◌, ◌^◌, length, IsTrue};
 ghost use Rattle.channel_core.specs.Lawful.{IsAdmitted, NumbersBelow};
 
 use crate::{Change, Channel, PutFault};
@@ -211,41 +210,38 @@ fn numbers_rise_within_a_state_alone(rt: HostRuntime) -> Result<(), Fail> {
     Ok(())
 }
 
-// A Channel of 1,999,999 entries with an empty queue: two messages that are cleared, and others
-// that are taken in turn.
-fn nearly_full(rt: &impl Abort, alloc: Global) -> Result<Channel, Fail>
-    ensures { IfOk result (NumbersBelow 2000000) }
+// One entry of a history whose first two messages are cleared, and whose others are taken in turn.
+fn fill(rt: &impl Abort, channel: &mut Channel, number: u32) -> Result<(), Fail>
+    requires { NumbersBelow number channel.old }
+    ensures { NumbersBelow (number + 1) channel.new }
 {
-    let mut channel = Channel::new(alloc);
-    for i in 0..1_999_999u32 {
-        assert!(rt; is_open(&channel));
-        let by = main_state(i + 1);
-        if i < 2 || (i > 2 && i % 2 == 1) {
-            assert!(rt; channel.put(by, Variant::Nil).is_ok());
-        } else if i == 2 {
-            assert_eq!(rt; channel.wipe(by)?, Some(3));
-        } else {
-            assert!(rt; channel.take(by)?.is_some());
-        }
+    assert!(rt; is_open(channel));
+    let by = main_state(number);
+    match number {
+        3 => assert_eq!(rt; channel.wipe(by)?, Some(3)),
+        _ if number < 3 || number % 2 == 0 => assert!(rt; channel.put(by, Variant::Nil).is_ok()),
+        _ => assert!(rt; channel.take(by)?.is_some()),
     }
-    Ok(channel)
+    Ok(())
 }
 
 #[test]
 fn at_the_limit_a_section_still_ends(rt: HostRuntime) -> Result<(), Fail> {
-    let mut channel = nearly_full(&rt, rt.alloc())?;
-    assert_eq!(rt; (channel.history().len(), channel.count()), (1_999_999, 0));
-    assert!(rt; channel.holder().is_none());
-    assert_eq!(rt; channel.enter(main_state(2_000_000))?, 2_000_000);
+    let alloc = rt.alloc();
+    let mut channel = Channel::new(alloc);
+    for i in 0..1_999_999u32 {
+        fill(&rt, &mut channel, i + 1)?;
+    }
+    play(&rt, alloc, &mut channel, 2_000_000, Enter(2_000_000))?;
     assert_eq!(rt; channel.holder(), Some(0));
     assert!(rt; is_open(&channel));
     let refused = channel.put(main_state(2_000_001), Variant::Bool(false));
     assert!(rt; matches!(refused, Err((Variant::Bool(false), PutFault::Full))));
-    assert!(rt; channel.take(main_state(2_000_001))?.is_none());
-    assert_eq!(rt; channel.wipe(main_state(2_000_001))?, None);
-    assert_eq!(rt; channel.leave(main_state(2_000_001)), 2_000_001);
+    play(&rt, alloc, &mut channel, 2_000_001, Empty)?;
+    play(&rt, alloc, &mut channel, 2_000_002, Wipe(None))?;
+    play(&rt, alloc, &mut channel, 2_000_003, Leave(2_000_001))?;
     assert!(rt; channel.holder().is_none());
-    assert_eq!(rt; channel.enter(main_state(2_000_002)), Err(PutFault::Full));
+    assert_eq!(rt; channel.enter(main_state(2_000_004)), Err(PutFault::Full));
     assert_eq!(rt; channel.history().len(), 2_000_001);
     Ok(())
 }

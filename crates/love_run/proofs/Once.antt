@@ -7,7 +7,7 @@ use Rattle.love_run.specs.Program.{IsProgram, lines, quote, Spells, SpellsEach, 
 use Rattle.love_run.specs.declared.statement.Statement.{Statement}
 use Rattle.love_run.specs.declared.statement.Statement.TheVariants.{Blank, Print, Push, PrintPop}
 use Rattle.variant.specs.declared.message.Variant.{Variant}
-use Rattle.variant.specs.declared.message.Variant.TheVariants.{Nil, Bool, Num, Bytes}
+use Rattle.variant.specs.declared.message.Variant.TheVariants.{Nil, Bool, Num, Bytes, Data, Channel, Table'}
 
 -- texts that one byte more makes equal
 before_last : (c : ℕ) (xs ys : List ℕ) → xs ++ c ∷ [] ≡ ys ++ c ∷ [] → xs ≡ ys
@@ -42,12 +42,21 @@ quotes_begin xs ys e = cc
 literal_once : (one other : Variant) (text : List ℕ) → SpellsLiteral one text → SpellsLiteral other text → one ≡ other
 literal_once Nil other text p q = absurd p
 literal_once (Bool truth) other text p q = absurd p
+literal_once (Data content) other text p q = absurd p
+literal_once (Channel number) other text p q = absurd p
+literal_once (Table' shape pairs) other text p q = absurd p
 literal_once (Num n) Nil text p q = absurd q
 literal_once (Num n) (Bool truth) text p q = absurd q
+literal_once (Num n) (Data content) text p q = absurd q
+literal_once (Num n) (Channel number) text p q = absurd q
+literal_once (Num n) (Table' shape pairs) text p q = absurd q
 literal_once (Num n) (Num k) text p q = ap (λ (z : ℤ). Num z) (p.3 ∙ sym q.3)
 literal_once (Num n) (Bytes bytes) text p q = absurd (quote_no_digits text bytes p.2 q.1)
 literal_once (Bytes bytes) Nil text p q = absurd q
 literal_once (Bytes bytes) (Bool truth) text p q = absurd q
+literal_once (Bytes bytes) (Data content) text p q = absurd q
+literal_once (Bytes bytes) (Channel number) text p q = absurd q
+literal_once (Bytes bytes) (Table' shape pairs) text p q = absurd q
 literal_once (Bytes bytes) (Num n) text p q = absurd (quote_no_digits text bytes q.2 p.1)
 literal_once (Bytes bytes) (Bytes others) text p q =
     ap (λ (b : List ℕ). Bytes b) (before_last quote bytes others (quotes_begin _ _ (sym p.1 ∙ q.1)))
@@ -64,6 +73,9 @@ no_quote e = omega (arith, e)
 no_letter : (literal : Variant) (text : List ℕ) → SpellsLiteral literal (108 ∷ text) → ⊥
 no_letter Nil text p = p
 no_letter (Bool truth) text p = p
+no_letter (Data content) text p = p
+no_letter (Channel number) text p = p
+no_letter (Table' shape pairs) text p = p
 no_letter (Num n) text p = letter_no_digit (digits_first 108 text p.2)
 no_letter (Bytes bytes) text p = no_quote (ap first p.1)
 

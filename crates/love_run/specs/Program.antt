@@ -5,7 +5,7 @@ use Rattle.std.specs.Str.Parse.{AllDigits, digits_value}
 use Rattle.love_run.specs.declared.statement.Statement.{Statement}
 use Rattle.love_run.specs.declared.statement.Statement.TheVariants.{Blank, Print, Push, PrintPop}
 use Rattle.variant.specs.declared.message.Variant.{Variant}
-use Rattle.variant.specs.declared.message.Variant.TheVariants.{Nil, Bool, Num, Bytes, Data, Channel, Table}
+use Rattle.variant.specs.declared.message.Variant.TheVariants.{Nil, Bool, Num, Bytes}
 
 -- the byte that ends a line
 abbrev pub newline : ℕ
@@ -41,9 +41,6 @@ SpellsLiteral Nil text = ⊥
 SpellsLiteral (Bool truth) text = ⊥
 SpellsLiteral (Num n) text =
     (0 < length text) × (length text ≤ 14) × AllDigits 10 text × (n ≡ pos (digits_value 10 text))
-SpellsLiteral (Data content) text = ⊥
-SpellsLiteral (Channel number) text = ⊥
-SpellsLiteral (Table pairs) text = ⊥
 SpellsLiteral (Bytes bytes) text = All IsPlain bytes × (text ≡ quote ∷ (bytes ++ quote ∷ []))
 SpellsLiteral other text = ⊥
 

@@ -6,7 +6,7 @@ use Rattle.std.specs.Fmt.{signed_decimal}
 use Rattle.love_base.specs.Prefix.{IsPrefix, IsProperPrefix}
 use Rattle.love_base.specs.declared.stamp.Stamp.{Stamp}
 use Rattle.variant.specs.declared.message.Variant.{Variant}
-use Rattle.variant.specs.declared.message.Variant.TheVariants.{Nil, Bool, Num, Bytes, Data, Channel, Table}
+use Rattle.variant.specs.declared.message.Variant.TheVariants.{Nil, Bool, Num, Bytes}
 use Rattle.channel_core.specs.declared.entry.Entry.{Entry}
 use Rattle.channel_core.specs.History.{front, put_by, take_by}
 use Rattle.love_run.specs.declared.statement.Statement.{Statement}

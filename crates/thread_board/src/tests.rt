@@ -4,15 +4,30 @@ ghost use Rattle.thread_board.specs.Lawful.{NumbersBelow};
 use crate::{Board, BoardFault, Named};
 use love_base::{List, Stamp, Text};
 use std::alloc::Global;
+use std::process::Abort;
 use std::test::Fail;
 use variant::{EndKind, Source};
 
-// The stamp of an action of state 0.
-fn main_state(number: u32) -> Stamp
-    ensures { result ≡ record { state = 0; number = number } }
-{
-    Stamp { state: 0, number }
+// A call, and the answer to it that was worked out by hand.
+#[derive(Clone, Copy)]
+enum Call {
+    /// The letter that is a Channel's name, and what this gives.
+    Name(u8, Named),
+    /// What a Channel without a name gives.
+    Channel(Result<Named, BoardFault>),
+    /// What a new Thread gives.
+    Thread(Result<(u32, u32), BoardFault>),
+    /// The Thread that is started, and what this gives.
+    Start(u32, Result<(u32, u32), BoardFault>),
+    /// The state that worker 1 begins, if one waits.
+    Take(Option<u32>),
+    /// The state that ends, and the place that this gives.
+    End(u32, u32),
+    /// The place that state 0's end gives.
+    MainEnd(u32),
 }
+
+use Call::{Channel, End, MainEnd, Name, Start, Take, Thread};
 
 fn named(place: u32, channel: u32, changed: bool) -> Named {
     Named {
@@ -22,82 +37,117 @@ fn named(place: u32, channel: u32, changed: bool) -> Named {
     }
 }
 
-// Starts a Thread on no values.
-fn start(
+// Makes one call, as the action of this number of state 0 or of the state that ends.
+fn play(
+    rt: &impl Abort,
     alloc: Global,
     board: &mut Board,
     number: u32,
-    thread: u32,
-) -> Result<(u32, u32), BoardFault>
-    requires { NumbersBelow number board.old.history }
-    ensures below { NumbersBelow (number + 1) board.new.history }
-    ensures workers { board.new.workers ≡ board.old.workers }
+    call: Call,
+) -> Result<(), Fail>
+    requires some { 1 ≤ number }
+    requires below { NumbersBelow number board.old.history }
+    ensures { NumbersBelow (number + 1) board.new.history }
 {
-    board.start(main_state(number), thread, List::new(alloc))
-}
-
-// What the one worker finds: the state that it begins.
-fn taken(board: &mut Board) -> Option<u32>
-    requires worker { 1 ≤ board.old.workers }
-    requires below { NumbersBelow 9 board.old.history }
-    ensures below { NumbersBelow 9 board.new.history }
-    ensures workers { board.new.workers ≡ board.old.workers }
-{
-    Some(board.take_job(1)?.state)
+    let by = Stamp { state: 0, number };
+    match call {
+        Name(letter, given) => {
+            let name = Text::of(alloc, &[letter])?;
+            assert_eq!(rt; board.name(by, &name)?, given);
+        }
+        Channel(given) => assert_eq!(rt; board.new_channel(by), given),
+        Thread(given) => {
+            let code = Source::Code(Text::of(alloc, b"")?);
+            assert_eq!(rt; board.new_thread(by, code), given);
+        }
+        Start(thread, given) => {
+            assert_eq!(rt; board.start(by, thread, List::new(alloc)), given);
+        }
+        Take(state) => {
+            let workers = board.workers();
+            assert!(rt; workers >= 1);
+            match (board.take_job(1), state) {
+                (Some(job), Some(state)) => assert_eq!(rt; job.state, state),
+                (None, None) => {}
+                _ => panic!(rt; "another job"),
+            }
+        }
+        End(state, place) => {
+            assert!(rt; board.is_working(state));
+            let by = Stamp { state, number };
+            assert_eq!(rt; board.end(by, EndKind::OutOfSteps), place);
+        }
+        MainEnd(place) => {
+            let workers = board.workers();
+            assert!(rt; workers > 0);
+            let ended = board.ended();
+            assert!(rt; ended.is_none());
+            assert_eq!(rt; board.main_end(by), place);
+        }
+    }
+    Ok(())
 }
 
 #[test]
 fn one_worker(rt: HostRuntime) -> Result<(), Fail> {
     let alloc = rt.alloc();
-    let name = Text::of(alloc, b"a")?;
     let mut board = Board::new(alloc, 1)?;
-    assert_eq!(rt; board.name(main_state(1), &name)?, named(1, 1, true));
-    assert_eq!(rt; board.name(main_state(2), &name)?, named(1, 1, false));
-    let code = Source::Code(Text::of(alloc, b"return")?);
-    assert_eq!(rt; board.new_thread(main_state(3), code)?, (2, 1));
-    assert_eq!(rt; start(alloc, &mut board, 4, 1)?, (3, 1));
-    let again = start(alloc, &mut board, 5, 1);
-    assert_eq!(rt; again, Err(BoardFault::AlreadyRunning { state: 1 }));
-    let code = Source::Code(Text::of(alloc, b"return")?);
-    assert_eq!(rt; board.new_thread(main_state(6), code)?, (4, 2));
-    let other = start(alloc, &mut board, 7, 2);
-    assert_eq!(rt; other, Err(BoardFault::TooManyRunning { running: 1 }));
-    let unknown = start(alloc, &mut board, 8, 9);
-    assert_eq!(rt; unknown, Err(BoardFault::NoSuchThread));
-    assert!(rt; board.running(1) && !board.running(2) && !board.has_begun(1));
-    assert_eq!(rt; taken(&mut board), Some(1));
-    assert_eq!(rt; board.history().len(), 5);
-    assert_eq!(rt; taken(&mut board), None);
-    assert!(rt; board.has_begun(1) && board.ended().is_none());
-    assert!(rt; board.is_working(1));
-    let last = Stamp {
-        state: 1,
-        number: 9,
-    };
-    assert_eq!(rt; board.end(last, EndKind::OutOfSteps), 6);
+    let calls = [
+        Name(b'a', named(1, 1, true)),
+        Name(b'a', named(1, 1, false)),
+        Thread(Ok((2, 1))),
+        Start(1, Ok((3, 1))),
+        Start(1, Err(BoardFault::AlreadyRunning { state: 1 })),
+        Thread(Ok((4, 2))),
+        Start(2, Err(BoardFault::TooManyRunning { running: 1 })),
+        Start(9, Err(BoardFault::NoSuchThread)),
+        Take(Some(1)),
+        Take(None),
+        End(1, 6),
+        MainEnd(7),
+        Start(1, Err(BoardFault::Closed { place: 7 })),
+    ];
+    let mut number: u32 = 1;
+    for call in calls.as_slice() {
+        play(&rt, alloc, &mut board, number, *call)?;
+        number += 1;
+    }
+    assert_eq!(rt; board.history().len(), 7);
     assert_eq!(rt; board.error_of(1), Some(b"out of steps".as_slice()));
-    assert!(rt; board.ended().is_none() && board.workers() > 0);
-    assert_eq!(rt; board.main_end(main_state(10)), 7);
-    let closed = start(alloc, &mut board, 11, 1);
-    assert_eq!(rt; closed, Err(BoardFault::Closed { place: 7 }));
+    assert!(rt; !board.running(1) && board.error_of(2).is_none() && board.has_begun(1));
     Ok(())
 }
 
 #[test]
 fn limits(rt: HostRuntime) -> Result<(), Fail> {
-    let mut board = Board::empty(rt.alloc());
-    for i in 0..1_024u32 {
-        let made = board.new_channel(main_state(i + 1))?;
-        assert_eq!(rt; made, named(i + 1, i + 1, true));
+    let alloc = rt.alloc();
+    let mut board = Board::empty(alloc);
+    for i in 1..1_025u32 {
+        play(&rt, alloc, &mut board, i, Channel(Ok(named(i, i, true))))?;
     }
-    let refused = board.new_channel(main_state(1_025));
-    assert_eq!(rt; refused, Err(BoardFault::TooManyChannels));
     for i in 1_025..2_025u32 {
-        let code = Source::Code(Text::of(rt.alloc(), b"")?);
-        assert_eq!(rt; board.new_thread(main_state(i), code)?, (i, i - 1_024));
+        play(&rt, alloc, &mut board, i, Thread(Ok((i, i - 1_024))))?;
     }
-    let code = Source::Code(Text::of(rt.alloc(), b"")?);
-    let refused = board.new_thread(main_state(2_025), code);
-    assert_eq!(rt; refused, Err(BoardFault::TooManyThreads));
+    let channel = Channel(Err(BoardFault::TooManyChannels));
+    play(&rt, alloc, &mut board, 2_025, channel)?;
+    let thread = Thread(Err(BoardFault::TooManyThreads));
+    play(&rt, alloc, &mut board, 2_026, thread)?;
+    Ok(())
+}
+
+#[test]
+fn starts(rt: HostRuntime) -> Result<(), Fail> {
+    let alloc = rt.alloc();
+    let mut board = Board::new(alloc, 1)?;
+    play(&rt, alloc, &mut board, 1, Thread(Ok((1, 1))))?;
+    for i in 0..1_000u32 {
+        let state = i + 1;
+        let place = 3 * i + 2;
+        play(&rt, alloc, &mut board, place, Start(1, Ok((place, state))))?;
+        play(&rt, alloc, &mut board, place + 1, Take(Some(state)))?;
+        play(&rt, alloc, &mut board, place + 2, End(state, place + 2))?;
+    }
+    let over = Start(1, Err(BoardFault::TooManyStarts));
+    play(&rt, alloc, &mut board, 3_002, over)?;
     Ok(())
 }
