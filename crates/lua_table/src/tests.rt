@@ -358,11 +358,11 @@ fn gaps_close_in_every_order(rt: HostRuntime) -> Result<(), Fail> {
 fn a_refused_set_changes_nothing(rt: HostRuntime) -> Result<(), Fail> {
     let mut pairs = Vec::with_capacity(rt.alloc(), 60)?;
     let mut table = Table::new(rt.alloc());
-    for n in 0..60i64 {
+    for n in 0..60u32 {
         let key = match n % 4 {
-            0 => Whole(n * 1_000),
-            1 => Text(n as u32),
-            _ => Whole(n),
+            0 => Whole(n as i64 * 1_000),
+            1 => Text(n),
+            _ => Whole(n as i64),
         };
         let step = Step::Set(key, 1);
         if !took(&mut table, step) {
