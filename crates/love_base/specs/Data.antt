@@ -8,4 +8,5 @@ pub record Contents : Type 0 where
 
 -- the bytes from an offset on, so many of them, without a name
 abbrev pub part : Contents → ℕ → ℕ → Contents
-part whole offset size = record { bytes = slice_range whole.bytes offset (offset + size); name = None }
+part whole offset size =
+    record { bytes = slice_range whole.bytes offset (offset + size); name = None }

@@ -14,7 +14,8 @@ paths files = map (λ file. file.0) files
 -- the bytes of the first file of that path, where there is one
 abbrev pub content : List File → List ℕ → Option (List ℕ)
 content [] path = None
-content (file ∷ files) path = if pointwise nat_eq file.0 path then Some file.1 else content files path
+content (file ∷ files) path =
+    if pointwise nat_eq file.0 path then Some file.1 else content files path
 
 -- the path of what has a name in a folder, where the path of the folder at the start is empty
 abbrev pub joined : List ℕ → List ℕ → List ℕ

@@ -1,4 +1,4 @@
-ghost use Rattle.std.specs.Prelude.{◌≡◌, ◌+◌, ◌<◌, ℕ, Option, length, min, Ok};
+ghost use Rattle.std.specs.Prelude.{◌≡◌, ◌+◌, ◌<◌, Option, length, min, Ok};
 ghost use Rattle.love_base.specs.Fault.{last_count};
 
 use crate::{Sink, SinkErr};

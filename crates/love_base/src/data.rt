@@ -1,6 +1,6 @@
 ghost use Rattle.std.specs.Prelude.{◌≡◌, ◌+◌, ◌≤◌, ◌↔◌, length, IsSome, IfSome, IfOk};
 ghost use Rattle.std.specs.Option.{option_copied};
-ghost use Rattle.love_base.specs.Data.{Contents, part};
+ghost use Rattle.love_base.specs.Data.{part};
 
 #[cfg(test)]
 mod tests;

@@ -1,6 +1,6 @@
-//! What the crates of the runtime share: texts and lists that contracts see as plain lists, Data, the
-//! numbers of Channels, the stamp of an entry, and the traits through which the runtime meets the
-//! world outside.
+//! What the crates of the runtime share: texts and lists that contracts see as plain lists, Data,
+//! the numbers of Channels, the stamp of an entry, and the traits through which the runtime meets
+//! the world outside.
 #![tactic(auto)]
 
 mod channel_no;

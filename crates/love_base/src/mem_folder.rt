@@ -3,7 +3,7 @@ ghost use Rattle.std.specs.List.{IsDistinct};
 ghost use Rattle.std.specs.Cmp.Lexicographic.{pointwise};
 ghost use Rattle.love_base.specs.Fault.{HasRisen};
 ghost use Rattle.love_base.specs.Folder.{content, paths, stored};
-ghost use Rattle.love_base.specs.Scripted.{after_call, fails_next, unused, ScriptedFolder};
+ghost use Rattle.love_base.specs.Scripted.{after_call, fails_next, unused};
 
 use crate::file_table::FileTable;
 use crate::script::Script;

@@ -1,9 +1,9 @@
-ghost use Rattle.std.specs.Prelude.{◌≡◌, ◌++◌, ◌<◌, ◌↔◌, [], Option, length, take, min, IfOk, OnErr, IsErrOf, IsTrue};
+ghost use Rattle.std.specs.Prelude.{◌≡◌, ◌++◌, ◌<◌, ◌↔◌, [], Option, length, take, min, IfOk, OnErr, OnOk, IsErrOf, IsTrue};
 ghost use Rattle.love_base.specs.Fault.{HasRisen};
 ghost use Rattle.love_base.specs.Scripted.{after_call, fails_next, unused};
 
 use crate::script::Script;
-use crate::{Sink, SinkErr};
+use crate::{Memory, Sink, SinkErr};
 use std::alloc::Global;
 use std::marker::Model;
 
@@ -52,6 +52,17 @@ impl MemSink {
     {
         self.taken.as_slice()
     }
+
+    // Puts the bytes behind those taken.
+    fn append(&mut self, bytes: &[u8]) -> Result<(), Memory>
+        ensures taken { OnOk result (self.new.taken ≡ self.old.taken ++ bytes.now) }
+        ensures refused { OnErr result (self.new.taken ≡ self.old.taken) }
+        ensures most { self.new.most ≡ self.old.most }
+        ensures script { self.new.script ≡ self.old.script }
+    {
+        self.taken.extend_from_slice(bytes)?;
+        Ok(())
+    }
 }
 
 impl Sink for MemSink {
@@ -78,9 +89,7 @@ impl Sink for MemSink {
             return Err(SinkErr::Failed);
         }
         let count = self.most.min(piece.len());
-        match self.taken.extend_from_slice(&piece[..count]) {
-            Ok(()) => Ok(count),
-            Err(_) => Err(SinkErr::Memory),
-        }
+        self.append(&piece[..count])?;
+        Ok(count)
     }
 }

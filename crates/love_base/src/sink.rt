@@ -2,6 +2,8 @@ ghost use Rattle.std.specs.Prelude.{◌≡◌, ◌++◌, ◌<◌, ◌≤◌, ℕ
 ghost use Rattle.std.specs.Option.{option_map};
 ghost use Rattle.love_base.specs.Fault.{HasRisen};
 
+use crate::Memory;
+
 /// Why a [`Sink`] took nothing.
 #[derive(Clone, Copy, Debug, PartialEq, Eq)]
 pub enum SinkErr {
@@ -9,6 +11,16 @@ pub enum SinkErr {
     Failed = 1,
     /// Want of memory.
     Memory,
+}
+
+impl From<Memory> for SinkErr {
+    ghost use Rattle.love_base.specs.declared.sink.SinkErr.TheVariants.{Memory};
+
+    ghost from_gives = { λ _ fault. fault ≡ Memory };
+
+    fn from(_want: Memory) -> SinkErr {
+        SinkErr::Memory
+    }
 }
 
 /// Where the printed bytes go.

@@ -1,31 +1,55 @@
 use super::Data;
-use crate::Text;
+use crate::{Memory, Text};
+use std::alloc::Global;
 use std::test::Fail;
 use std::thread;
 
 fn is_send_and_sync<T: Send + Sync + Drop>(_value: T) {}
 
-#[test]
-fn views_stand_on_the_bytes(rt: HostRuntime) -> Result<(), Fail> {
-    let name = Text::from_vec(Vec::from_slice(rt.alloc(), b"map.bin")?);
-    let whole = Data::new(rt.alloc(), b"abcde", Some(name)).expect(&rt, "memory");
-    assert_eq!(rt; whole.size(), 5);
-    assert_eq!(rt; whole.bytes(), b"abcde".as_slice());
-    assert_eq!(rt;
-        whole.name().map(|name| name.bytes()),
-        Some(b"map.bin".as_slice())
-    );
+// Five bytes of a file.
+fn five(alloc: Global) -> Result<Data, Memory> {
+    let name = Text::from_vec(Vec::from_slice(alloc, b"map.bin")?);
+    Data::new(alloc, b"abcde", Some(name))
+}
 
-    let equal = whole.share().expect(&rt, "memory");
-    let inner = whole.view(1, 3).expect(&rt, "memory").expect(&rt, "a view");
+// Whether Data reads as these bytes, under this name.
+fn reads(data: &Data, bytes: &[u8], name: Option<&[u8]>) -> bool {
+    data.size() == bytes.len()
+        && data.bytes() == bytes
+        && data.name().map(|name| name.bytes()) == name
+}
+
+// Whether the view of so many bytes from there on is this part, which has no name, or is none.
+fn views(data: &Data, offset: usize, size: usize, part: Option<&[u8]>) -> Result<bool, Memory> {
+    match (data.view(offset, size)?, part) {
+        (Some(view), Some(part)) => Ok(reads(&view, part, None)),
+        (view, part) => Ok(view.is_none() && part.is_none()),
+    }
+}
+
+#[test]
+fn shares_stand_on_the_bytes(rt: HostRuntime) -> Result<(), Fail> {
+    let whole = five(rt.alloc())?;
+    assert!(rt; reads(&whole, b"abcde", Some(b"map.bin")));
+    let equal = whole.share()?;
     drop(whole);
-    assert_eq!(rt; equal.bytes(), b"abcde".as_slice());
-    assert_eq!(rt;
-        equal.name().map(|name| name.bytes()),
-        Some(b"map.bin".as_slice())
-    );
-    assert_eq!(rt; inner.bytes(), b"bcd".as_slice());
-    assert!(rt; inner.name().is_none());
+    assert!(rt; reads(&equal, b"abcde", Some(b"map.bin")));
+    Ok(())
+}
+
+#[test]
+fn a_view_stands_on_the_bytes(rt: HostRuntime) -> Result<(), Fail> {
+    let whole = five(rt.alloc())?;
+    let inner = whole.view(1, 3)?.ok_or("a view")?;
+    drop(whole);
+    assert!(rt; reads(&inner, b"bcd", None));
+    assert!(rt; views(&inner, 2, 1, Some(b"d"))?);
+    Ok(())
+}
+
+#[test]
+fn a_view_lies_within(rt: HostRuntime) -> Result<(), Fail> {
+    let equal = five(rt.alloc())?.share()?;
     for (offset, size, part) in [
         (4, 2, None),
         (5, 0, Some(b"".as_slice())),
@@ -34,22 +58,15 @@ fn views_stand_on_the_bytes(rt: HostRuntime) -> Result<(), Fail> {
         (usize::MAX, 2, None),
         (2, usize::MAX, None),
     ] {
-        let view = equal.view(offset, size).expect(&rt, "memory");
-        assert_eq!(rt;
-            view.as_ref().map(|view| view.bytes()),
-            part,
-            "{offset}, {size}"
-        );
+        assert!(rt; views(&equal, offset, size, part)?, "{offset}, {size}");
     }
-    let last = inner.view(2, 1).expect(&rt, "memory").expect(&rt, "a view");
-    assert_eq!(rt; last.bytes(), b"d".as_slice());
     Ok(())
 }
 
 #[test]
 fn threads_read_the_same_bytes(rt: HostRuntime) -> Result<(), Fail> {
-    let mine = Data::new(rt.alloc(), b"abcde", None).expect(&rt, "memory");
-    let theirs = mine.share().expect(&rt, "memory");
+    let mine = Data::new(rt.alloc(), b"abcde", None)?;
+    let theirs = mine.share()?;
     let (sent, lent) = thread::join(&rt, move || theirs.size(), || mine.size());
     assert_eq!(rt; (sent, lent), (5, 5));
     is_send_and_sync(mine);

@@ -34,6 +34,13 @@ impl Print for Output {
     }
 }
 
+// Whether a sink over this output answers so, and so again.
+fn answers(output: Output, answer: Result<usize, SinkErr>) -> bool {
+    let mut sink = RealSink::new(output);
+    let (first, second) = (sink.write(b"four"), sink.write(b"four"));
+    first == answer && second == answer
+}
+
 #[test]
 fn an_output_that_takes_nothing_fails(rt: HostRuntime) {
     let rows = [
@@ -46,9 +53,7 @@ fn an_output_that_takes_nothing_fails(rt: HostRuntime) {
         (Output::Fails(ErrorKind::OutOfMemory), Err(SinkErr::Memory)),
     ];
     for (output, answer) in rows {
-        let mut sink = RealSink::new(output);
-        let (first, second) = (sink.write(b"four"), sink.write(b"four"));
-        assert!(rt; first == answer && second == answer, "{answer:?}");
+        assert!(rt; answers(output, answer), "{answer:?}");
     }
 }
 

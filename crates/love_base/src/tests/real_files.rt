@@ -11,13 +11,16 @@ enum Entry<'a> {
     Link(&'a str, &'a str),
 }
 
+// The path of what has this path in the folder.
+fn below(rt: &HostRuntime, root: &str, path: &str) -> Result<String, Memory> {
+    Ok(format!(in rt.alloc(); "{root}/{path}")?)
+}
+
 fn make(rt: &HostRuntime, root: &str, entry: Entry<'_>) -> Result<(), Fail> {
     match entry {
-        Entry::Folder(path) => fs::create_dir_all(rt, format!(in rt.alloc(); "{root}/{path}")?)?,
-        Entry::File(path, bytes) => {
-            fs::write(rt, format!(in rt.alloc(); "{root}/{path}")?, bytes)?;
-        }
-        Entry::Link(path, to) => symlink(rt, to, format!(in rt.alloc(); "{root}/{path}")?)?,
+        Entry::Folder(path) => fs::create_dir_all(rt, below(rt, root, path)?)?,
+        Entry::File(path, bytes) => fs::write(rt, below(rt, root, path)?, bytes)?,
+        Entry::Link(path, to) => symlink(rt, to, below(rt, root, path)?)?,
     }
     Ok(())
 }
@@ -196,7 +199,7 @@ fn reads_what_a_file_holds(rt: HostRuntime) -> Result<(), Fail> {
 #[test]
 fn reads_a_file_that_is_too_long_only_in_part(rt: HostRuntime) -> Result<(), Fail> {
     let root = fresh_folder(&rt, "long_file", &[])?;
-    let path = format!(in rt.alloc(); "{root}/main.lua")?;
+    let path = below(&rt, root.as_str(), "main.lua")?;
     fs::create(&rt, path.as_str())?.set_len(67_108_866)?;
     let read = reading(&rt, root.as_str(), b"main.lua")?;
     assert!(rt; read.is_some_and(|bytes| bytes.len() == 67_108_865));
@@ -205,8 +208,7 @@ fn reads_a_file_that_is_too_long_only_in_part(rt: HostRuntime) -> Result<(), Fai
 }
 
 fn set_mode(rt: &HostRuntime, root: &str, path: &str, mode: u32) -> Result<(), Fail> {
-    let path = format!(in rt.alloc(); "{root}/{path}")?;
-    fs::set_permissions(rt, path, fs::Permissions::from_mode(mode))?;
+    fs::set_permissions(rt, below(rt, root, path)?, fs::Permissions::from_mode(mode))?;
     Ok(())
 }
 
@@ -217,7 +219,7 @@ fn neither_reads_nor_lists_what_it_may_not(rt: HostRuntime) -> Result<(), Fail> 
     let root = fresh_folder(&rt, "barred", &entries)?;
     set_mode(&rt, root.as_str(), "file", 0)?;
     set_mode(&rt, root.as_str(), "folder", 0)?;
-    let file = format!(in rt.alloc(); "{root}/file")?;
+    let file = below(&rt, root.as_str(), "file")?;
     if fs::read(&rt, file.as_str()).is_err() {
         assert!(rt; reading(&rt, root.as_str(), b"file")?.is_none());
         assert!(rt; lists(&rt, root.as_bytes(), None)?);

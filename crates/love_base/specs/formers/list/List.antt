@@ -1,5 +1,5 @@
--- How a List holds its items, so that a type may hold a List of itself: a List is seen as the plain list
--- of its items, which lie in the one vector inside, in that order.
+-- How a List holds its items, so that a type may hold a List of itself: a List is seen as the plain
+-- list of its items, which lie in the one vector inside, in that order.
 use mathlib.Core.Path.{◌≡◌, refl, sym}
 use mathlib.Core.List.{List, []}
 use mathlib.Core.Former.{Former, this, list, via, children}
