@@ -7,7 +7,8 @@ use Rattle.variant.specs.declared.action.Deed.TheVariants.{Told, End, MainEnd}
 
 -- the actions of a log, in order
 abbrev pub parts : Option Action → List Action → Option Action → Option Action → List Action
-parts begin asked told end = option_to_list begin ++ (asked ++ (option_to_list told ++ option_to_list end))
+parts begin asked told end =
+    option_to_list begin ++ (asked ++ (option_to_list told ++ option_to_list end))
 
 abbrev pub IsTold : Deed → Type 0
 IsTold (Told text) = ⊤

@@ -34,29 +34,70 @@ fn deep_text(message: &Variant) -> Option<&[u8]> {
     }
 }
 
+// Whether a message of one of the kinds that hold no other message is the other one.
+fn is_same(left: &Variant, right: &Variant) -> bool {
+    match (left, right) {
+        (Variant::Nil, Variant::Nil) => true,
+        (Variant::Bool(left), Variant::Bool(right)) => left == right,
+        (Variant::Num(left), Variant::Num(right)) => left == right,
+        (Variant::Bytes(left), Variant::Bytes(right)) => left == right,
+        (Variant::Data(left), Variant::Data(right)) => left.bytes() == right.bytes(),
+        (Variant::Channel(left), Variant::Channel(right)) => left == right,
+        _ => false,
+    }
+}
+
+// Whether the copy of a message is the message.
+fn copies(alloc: Global, message: &Variant) -> Result<bool, Memory> {
+    let copy = message.copy(alloc)?;
+    Ok(is_same(&copy, message))
+}
+
 #[test]
-fn a_copy_is_there_for_each_kind(rt: HostRuntime) -> Result<(), Fail> {
-    let alloc = rt.alloc();
+fn a_small_message_is_copied(rt: HostRuntime) -> Result<(), Fail> {
     let number = Num::new(-7).ok_or("in the range")?;
     let channel = ChannelNo::new(3).ok_or("in the range")?;
-    assert!(rt; matches!(Variant::Nil.copy(alloc)?, Variant::Nil));
-    assert!(rt; matches!(Variant::Bool(true).copy(alloc)?, Variant::Bool(true)));
-    let copy = Variant::Num(number).copy(alloc)?;
-    assert!(rt; matches!(copy, Variant::Num(found) if found.get() == -7));
-    let copy = Variant::Channel(channel).copy(alloc)?;
-    assert!(rt; matches!(copy, Variant::Channel(found) if found.get() == 3));
-    match Variant::Data(Data::new(alloc, b"bytes", None)?).copy(alloc)? {
-        Variant::Data(data) => assert_eq!(rt; data.bytes(), b"bytes".as_slice()),
-        other => panic!(rt; "{other:?}"),
+    let rows = [
+        Variant::Nil,
+        Variant::Bool(true),
+        Variant::Num(number),
+        Variant::Channel(channel),
+    ];
+    for message in &rows {
+        assert!(rt; copies(rt.alloc(), message)?, "{message:?}");
     }
-    let copy = nested(alloc)?.copy(alloc)?;
-    assert_eq!(rt; deep_text(&copy), Some(b"deep".as_slice()));
-    let all = copy_all(alloc, &List::from_vec(vec![in alloc; copy, Variant::Nil]?))?;
-    assert_eq!(rt; all.len(), 2);
-    match Source::Code(Text::of(alloc, b"return")?).copy(alloc)? {
-        Source::Code(text) => assert_eq!(rt; text.bytes(), b"return".as_slice()),
-        other => panic!(rt; "{other:?}"),
-    }
+    Ok(())
+}
+
+#[test]
+fn bytes_are_copied(rt: HostRuntime) -> Result<(), Fail> {
+    let text = Variant::Bytes(Text::of(rt.alloc(), b"text")?);
+    assert!(rt; copies(rt.alloc(), &text)?);
+    let data = Variant::Data(Data::new(rt.alloc(), b"bytes", None)?);
+    assert!(rt; copies(rt.alloc(), &data)?);
+    Ok(())
+}
+
+#[test]
+fn a_table_is_copied_with_what_is_in_it(rt: HostRuntime) -> Result<(), Fail> {
+    let copy = nested(rt.alloc())?.copy(rt.alloc())?;
+    assert!(rt; deep_text(&copy) == Some(b"deep".as_slice()));
+    Ok(())
+}
+
+#[test]
+fn all_messages_are_copied(rt: HostRuntime) -> Result<(), Fail> {
+    let messages = vec![in rt.alloc(); Variant::Bool(true), Variant::Nil]?;
+    let copies = copy_all(rt.alloc(), &List::from_vec(messages))?;
+    assert!(rt; copies.len() == 2);
+    Ok(())
+}
+
+#[test]
+fn a_source_is_copied(rt: HostRuntime) -> Result<(), Fail> {
+    let source = Source::Code(Text::of(rt.alloc(), b"return")?);
+    let copy = source.copy(rt.alloc())?;
+    assert!(rt; matches!(&copy, Source::Code(text) if text.bytes() == b"return".as_slice()));
     Ok(())
 }
 
