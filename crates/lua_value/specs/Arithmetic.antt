@@ -1,5 +1,6 @@
--- Arithmetic on whole numbers of any size (Lua 5.1 manual §2.5.1), and where an operation has no Num as its answer:
--- this range, and no value in place of a fraction or an infinity, are this project's own.
+-- Arithmetic on whole numbers of any size (Lua 5.1 manual §2.5.1), and where an operation has no
+-- Num as its answer: this range, and no value in place of a fraction or an infinity, are this
+-- project's own.
 use Rattle.std.specs.Prelude.{Bool, ℕ, zero, suc, ◌/◌, ℤ, pos, negsuc, ◌+ℤ◌, ◌-ℤ◌, ◌*ℤ◌, ◌≤ℤ◌, ◌<ℤ◌, ◌⊎◌, neg_ℤ, unsigned_abs, Result, Ok, Err, if◌then◌else◌, nat_le, ◌==◌}
 use Rattle.lua_value.specs.declared.arithmetic.NumFault.{NumFault}
 use Rattle.lua_value.specs.declared.arithmetic.NumFault.TheVariants.{NotWhole, OutOfRange}

@@ -1,5 +1,6 @@
--- Texts that are read as numbers, as the reference program reads a string where it wants a number (Lua 5.1 manual
--- §2.2.1). The six blanks are those of the C library there; that the value is exact is this project's own.
+-- Texts that are read as numbers, as the reference program reads a string where it wants a number
+-- (Lua 5.1 manual §2.2.1). The six blanks are those of the C library there; that the value is exact
+-- is this project's own.
 use Rattle.std.specs.Prelude.{◌≡◌, ℕ, ℤ, Bool, not, nat_le, ◌==◌, ◌&&◌, ◌||◌, List, ◌++◌}
 use Rattle.std.specs.List.{AllPass}
 use Rattle.lua_value.specs.Sign.{Sign, sign_text, signed}
@@ -22,4 +23,5 @@ DenotesSigned word n =
 abbrev pub ReadsAs : List ℕ → ℤ → Type 0
 ReadsAs text n =
     (before : List ℕ) × (word : List ℕ) × (after : List ℕ)
-    × AllPass is_blank before × AllPass is_blank after × (text ≡ before ++ (word ++ after)) × DenotesSigned word n
+    × AllPass is_blank before × AllPass is_blank after
+    × (text ≡ before ++ (word ++ after)) × DenotesSigned word n

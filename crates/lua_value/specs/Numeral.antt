@@ -1,5 +1,6 @@
--- Numerals (Lua 5.1 manual §2.1): what their texts are, and the exact value of each. Hexadecimal ones are read by the
--- reference program too; that the value is exact and never rounded is this project's own.
+-- Numerals (Lua 5.1 manual §2.1): what their texts are, and the exact value of each. Hexadecimal
+-- ones are read by the reference program too; that the value is exact and never rounded is this
+-- project's own.
 use Rattle.std.specs.Prelude.{◌≡◌, ℕ, ◌+◌, ◌*◌, ◌^◌, ◌<◌, ℤ, pos, negsuc, suc, ◌*ℤ◌, ◌⊎◌, List, [], ◌∷◌, ◌++◌, length, codes, Option, Some, None, Result, Ok, Err, MatchOption, ⊤}
 use Rattle.std.specs.Str.Parse.{AllDigits, digits_value}
 use Rattle.lua_value.specs.Num.{IsNum}
@@ -15,8 +16,8 @@ pub record Exponent : Type 0 where
   pub sign : Sign
   pub digits : List ℕ
 
--- a numeral: hexadecimal digits behind `0` and a letter; or decimal digits, those behind a point where there is one,
--- and an exponent where there is one
+-- a numeral: hexadecimal digits behind `0` and a letter; or decimal digits, those behind a point
+-- where there is one, and an exponent where there is one
 pub data Numeral : Type 0 where
   hexadecimal : (letter : ℕ) (digits : List ℕ) → Numeral
   decimal : (whole : List ℕ) (fraction : Option (List ℕ)) (exponent : Option Exponent) → Numeral
@@ -41,7 +42,8 @@ exponent_text (Some e) = e.letter ∷ (sign_text e.sign ++ e.digits)
 -- the bytes of a numeral, from left to right
 abbrev pub numeral_text : Numeral → List ℕ
 numeral_text (hexadecimal letter digits) = codes "0" ++ (letter ∷ digits)
-numeral_text (decimal whole fraction exponent) = whole ++ (fraction_text fraction ++ exponent_text exponent)
+numeral_text (decimal whole fraction exponent) =
+    whole ++ (fraction_text fraction ++ exponent_text exponent)
 
 -- `e` or `E`, and one decimal digit or more
 abbrev pub IsExponent : Exponent → Type 0
@@ -51,8 +53,8 @@ IsExponent e = ((e.letter ≡ 101) ⊎ (e.letter ≡ 69)) × (0 < length e.digit
 abbrev pub IsOptionalExponent : Option Exponent → Type 0
 IsOptionalExponent exponent = MatchOption exponent ⊤ IsExponent
 
--- `x` or `X`, and one hexadecimal digit or more; or one decimal digit or more before and behind the point together, and
--- an exponent or none
+-- `x` or `X`, and one hexadecimal digit or more; or one decimal digit or more before and behind the
+-- point together, and an exponent or none
 abbrev pub IsWellFormed : Numeral → Type 0
 IsWellFormed (hexadecimal letter digits) =
     ((letter ≡ 120) ⊎ (letter ≡ 88)) × (0 < length digits) × AllDigits 16 digits
@@ -76,12 +78,13 @@ abbrev pub lowering : ℤ → ℕ
 lowering (pos k) = 0
 lowering (negsuc k) = suc k
 
--- z is the number that the digits before and behind a point write, times ten to the exponent e: all digits together,
--- times the power of ten that e raises by, are z times ten for each digit behind the point and for each that e lowers
--- by
+-- z is the number that the digits before and behind a point write, times ten to the exponent e: all
+-- digits together, times the power of ten that e raises by, are z times ten for each digit behind
+-- the point and for each that e lowers by
 abbrev pub IsScaled : List ℕ → List ℕ → ℤ → ℤ → Type 0
 IsScaled whole fraction e z =
-    z *ℤ pos (10 ^ (length fraction + lowering e)) ≡ pos (digits_value 10 (whole ++ fraction) * 10 ^ raising e)
+    z *ℤ pos (10 ^ (length fraction + lowering e))
+    ≡ pos (digits_value 10 (whole ++ fraction) * 10 ^ raising e)
 
 -- z is the exact value of a numeral
 abbrev pub HasValue : Numeral → ℤ → Type 0
