@@ -2,6 +2,7 @@ pub mod BeginsLemmas
 pub mod Symbols
 pub mod Strings
 pub mod Parts
+pub mod Lines
 pub mod Steps
 pub mod Once
 pub mod Values

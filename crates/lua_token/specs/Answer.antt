@@ -20,7 +20,8 @@ no_memory = record { line = 0; what = Memory }
 abbrev pub IsTokensAnswer : List ℕ → Result (List Token) LexFault → Type 0
 IsTokensAnswer source (Ok ts) = (length source ≤ max_length) × Cuts source ts
 IsTokensAnswer source (Err fault) =
-    ((max_length < length source) × (fault ≡ too_long)) ⊎ ((length source ≤ max_length) × Faults source fault)
+    ((max_length < length source) × (fault ≡ too_long))
+    ⊎ ((length source ≤ max_length) × Faults source fault)
 
 -- What was returned is the answer, unless memory ran out.
 abbrev pub IsOutcome : List ℕ → Result (Vec Token) LexFault → Type 0

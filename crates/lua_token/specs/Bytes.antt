@@ -1,5 +1,5 @@
 -- The classes of bytes that spellings are made of.
-use Rattle.std.specs.Prelude.{ℕ, Bool, false, List, [], ◌∷◌, ◌==◌, ◌&&◌, ◌||◌, not, nat_le}
+use Rattle.std.specs.Prelude.{ℕ, Bool, false, List, [], ◌∷◌, ◌==◌, ◌&&◌, ◌||◌, not, nat_le, count_by}
 use Rattle.std.specs.Char.{is_ascii_digit}
 use Rattle.lua_token.specs.declared.bytes.Class.{Class}
 use Rattle.lua_token.specs.declared.bytes.Class.TheVariants.{InName, Digit, DigitOrDot, Equals, InLine}
@@ -18,6 +18,10 @@ is_of Digit b = is_ascii_digit b
 is_of DigitOrDot b = is_ascii_digit b || b == 46
 is_of Equals b = b == 61
 is_of InLine b = not (b == 10)
+
+-- how many newlines a text has
+abbrev pub newlines : List ℕ → ℕ
+newlines text = count_by (λ b. b == 10) text
 
 -- whether the text begins with such a byte
 abbrev pub first_is : (ℕ → Bool) → List ℕ → Bool

@@ -1,12 +1,13 @@
--- What stands at a place of a source: a blank or a comment, a token, or a fault (Lua 5.1 manual §2.1). Bytes are
--- written as numbers: 34 and 39 are the quotes, 45 is the dash, 91 and 93 are the brackets.
+-- What stands at a place of a source: a blank or a comment, a token, or a fault (Lua 5.1 manual
+-- §2.1). Bytes are written as numbers: 34 and 39 are the quotes, 45 is the dash, 91 and 93 are the
+-- brackets.
 use Rattle.std.specs.Prelude.{◌≡◌, ℕ, ◌+◌, ◌-◌, ◌<◌, ◌≤◌, ℤ, List, [], ◌∷◌, drop, take, length, Option, Some, None, Result, Ok, Err, slice_index, ◌==◌, ◌&&◌, ◌||◌, ◌⊎◌, if◌then◌else◌}
 use Rattle.std.specs.List.{prefix_len}
 use Rattle.lua_value.specs.NumberText.{is_blank}
 use Rattle.lua_value.specs.Numeral.{IsNumeralAnswer}
 use Rattle.lua_value.specs.declared.numeral.NumeralFault.{NumeralFault}
 use Rattle.lua_value.specs.declared.numeral.NumeralFault.TheVariants as numeral
-use Rattle.lua_token.specs.Bytes.{is_letter, is_of, first_is}
+use Rattle.lua_token.specs.Bytes.{is_letter, is_of, first_is, newlines}
 use Rattle.lua_token.specs.Spelling.{spelling, word_kind, symbol_at}
 use Rattle.lua_token.specs.Run.{starts_number, number_length}
 use Rattle.lua_token.specs.Long.{level, LongAt}
@@ -20,6 +21,7 @@ use Rattle.lua_token.specs.declared.quoted.Character.{Character}
 use Rattle.lua_token.specs.declared.quoted.Character.TheVariants as characters
 use Rattle.lua_token.specs.declared.start.Start.{Start}
 use Rattle.lua_token.specs.declared.start.Start.TheVariants as starts
+use Rattle.lua_token.specs.declared.step.Counted.{Counted}
 use Rattle.lua_token.specs.declared.step.Step.{Step}
 use Rattle.lua_token.specs.declared.step.Step.TheVariants.{Skip, Found}
 
@@ -65,10 +67,10 @@ abbrev pub symbol_step : Option Kind → Result Step LexWhat
 symbol_step (Some kind) = Ok (Found kind (length (spelling kind)))
 symbol_step None = Err BadByte
 
--- What is found at the front of a text that begins so. A word is the longest run of its bytes; a number is its whole
--- run, which is judged then; a quoted string ends at the first character that is no byte; a comment is long where a
--- long bracket opens behind its dashes, and else goes to the end of its line; a symbol is the longest that stands
--- there.
+-- What is found at the front of a text that begins so. A word is the longest run of its bytes; a
+-- number is its whole run, which is judged then; a quoted string ends at the first character that
+-- is no byte; a comment is long where a long bracket opens behind its dashes, and else goes to the
+-- end of its line; a symbol is the longest that stands there.
 abbrev pub Stands : Start → List ℕ → Result Step LexWhat → Type 0
 Stands starts.Nothing text found = ⊥
 Stands starts.Blank text found = found ≡ Ok (Skip 1)
@@ -76,15 +78,18 @@ Stands starts.Word text found =
     let n = prefix_len (is_of InName) text in found ≡ Ok (Found (word_kind (take n text)) n)
 Stands starts.Digits text found =
     (judged : Result ℤ NumeralFault)
-    × IsNumeralAnswer (take (number_length text) text) judged × (found ≡ number_step (number_length text) judged)
+    × IsNumeralAnswer (take (number_length text) text) judged
+    × (found ≡ number_step (number_length text) judged)
 Stands starts.Quote text found =
     (bytes : List ℕ) × (rest : List ℕ) × Characters (slice_index text 0) (drop 1 text) bytes rest
     × QuoteEnds (character_at (slice_index text 0) rest) (length text + 1 - length rest) found
 Stands starts.Comment text found =
-    ((level 91 (drop 2 text) ≡ None) × (found ≡ Ok (Skip (2 + prefix_len (is_of InLine) (drop 2 text)))))
+    ((level 91 (drop 2 text) ≡ None)
+    × (found ≡ Ok (Skip (2 + prefix_len (is_of InLine) (drop 2 text)))))
     ⊎ ((n : ℕ) × (size : Option ℕ) × (level 91 (drop 2 text) ≡ Some n) × LongAt n (drop 2 text) size
     × (found ≡ comment_step size))
-Stands (starts.Long n) text found = (size : Option ℕ) × LongAt n text size × (found ≡ long_step size)
+Stands (starts.Long n) text found =
+    (size : Option ℕ) × LongAt n text size × (found ≡ long_step size)
 Stands starts.Symbol text found = found ≡ symbol_step (symbol_at text)
 
 -- at the front of a text
@@ -104,3 +109,12 @@ step_length (Found kind n) = n
 -- a step goes on, and stays within so many bytes
 abbrev pub Advances : Step → ℕ → Type 0
 Advances step limit = (0 < step_length step) × (step_length step ≤ limit)
+
+-- what stands at a place, without the newlines that it passes
+abbrev pub uncounted : Result Counted LexWhat → Result Step LexWhat
+uncounted (Ok counted) = Ok counted.step
+uncounted (Err what) = Err what
+
+-- the newlines that are counted are those that the step passes at the front of the text
+abbrev pub CountsNewlines : List ℕ → Counted → Type 0
+CountsNewlines text counted = counted.newlines ≡ newlines (take (step_length counted.step) text)

@@ -1,5 +1,5 @@
--- Quoted strings (Lua 5.1 manual §2.1), one character after the other. 92 is the backslash, 10 the newline and
--- 13 the return.
+-- Quoted strings (Lua 5.1 manual §2.1), one character after the other. 92 is the backslash, 10 the
+-- newline and 13 the return.
 use Rattle.std.specs.Prelude.{◌≡◌, ℕ, ◌+◌, ◌<◌, ◌≤◌, List, [], ◌∷◌, drop, take, length, min, ◌==◌, ◌&&◌, nat_le, if◌then◌else◌}
 use Rattle.std.specs.List.{prefix_len}
 use Rattle.std.specs.Char.{is_ascii_digit}
@@ -9,7 +9,8 @@ use Rattle.lua_token.specs.declared.bytes.Class.TheVariants.{Digit}
 use Rattle.lua_token.specs.declared.quoted.Character.{Character}
 use Rattle.lua_token.specs.declared.quoted.Character.TheVariants.{Byte, Closing, Unfinished, TooLarge}
 
--- what a byte behind a backslash stands for: seven letters for a control byte, each other byte for itself
+-- what a byte behind a backslash stands for: seven letters for a control byte, each other byte for
+-- itself
 unfoldable pub escaped : ℕ → ℕ
 escaped b =
     if b == 97 then 7
@@ -28,7 +29,8 @@ escape_digits text = take (min 3 (prefix_len (is_of Digit) text)) text
 -- a decimal escape with these digits: a byte, or a number over 255
 abbrev pub decimal_escape : List ℕ → Character
 decimal_escape digits =
-    if nat_le (digits_value 10 digits) 255 then Byte (digits_value 10 digits) (1 + length digits) else TooLarge
+    if nat_le (digits_value 10 digits) 255 then Byte (digits_value 10 digits) (1 + length digits)
+    else TooLarge
 
 -- an escape, of which this text stands behind the backslash
 unfoldable pub escape_at : List ℕ → Character
@@ -38,7 +40,8 @@ escape_at (b ∷ text) =
     else (if b == 13 && first_is (λ c. c == 10) text then Byte 10 3
     else Byte (escaped b) 2)
 
--- the character at the front of a text inside these quotes: a byte, and how many bytes of the source stand for it
+-- the character at the front of a text inside these quotes: a byte, and how many bytes of the
+-- source stand for it
 unfoldable pub character_at : ℕ → List ℕ → Character
 character_at quote [] = Unfinished
 character_at quote (b ∷ text) =

@@ -1,4 +1,5 @@
--- The run of bytes that is read as one number (Lua 5.1 manual §2.1); whether it is a numeral is judged afterwards.
+-- The run of bytes that is read as one number (Lua 5.1 manual §2.1); whether it is a numeral is
+-- judged afterwards.
 use Rattle.std.specs.Prelude.{ℕ, ◌+◌, Bool, false, List, [], ◌∷◌, drop, ◌==◌, ◌&&◌, ◌||◌, if◌then◌else◌}
 use Rattle.std.specs.List.{prefix_len}
 use Rattle.std.specs.Char.{is_ascii_digit}
@@ -10,13 +11,15 @@ abbrev pub starts_number : List ℕ → Bool
 starts_number [] = false
 starts_number (b ∷ text) = is_ascii_digit b || (b == 46 && first_is is_ascii_digit text)
 
--- how many bytes an exponent's letter and its sign take: `e` or `E`, and `+` or `-` where one follows
+-- how many bytes an exponent's letter and its sign take: `e` or `E`, and `+` or `-` where one
+-- follows
 unfoldable pub mark_length : List ℕ → ℕ
 mark_length [] = 0
 mark_length (b ∷ text) =
     if b == 101 || b == 69 then (if first_is (λ c. c == 43 || c == 45) text then 2 else 1) else 0
 
--- the length of the run: digits and points; then an exponent's letter and sign; then letters, digits and underscores
+-- the length of the run: digits and points; then an exponent's letter and sign; then letters,
+-- digits and underscores
 unfoldable pub number_length : List ℕ → ℕ
 number_length text =
     let digits = prefix_len (is_of DigitOrDot) text in

@@ -61,15 +61,15 @@ spelling Str = []
 -- the keywords
 abbrev pub keywords : List Kind
 keywords =
-    And ∷ Break ∷ Do ∷ Else ∷ ElseIf ∷ End ∷ False ∷ For ∷ Function ∷ If ∷ In ∷ Local ∷ Nil ∷ Not ∷ Or ∷ Repeat
-    ∷ Return ∷ Then ∷ True ∷ Until ∷ While ∷ []
+    And ∷ Break ∷ Do ∷ Else ∷ ElseIf ∷ End ∷ False ∷ For ∷ Function ∷ If ∷ In ∷ Local ∷ Nil ∷ Not
+    ∷ Or ∷ Repeat ∷ Return ∷ Then ∷ True ∷ Until ∷ While ∷ []
 
 -- the symbols, longer ones first
 abbrev pub symbols : List Kind
 symbols =
-    Dots ∷ Equal ∷ NotEqual ∷ LessEqual ∷ GreaterEqual ∷ Concat ∷ Plus ∷ Minus ∷ Star ∷ Slash ∷ Percent ∷ Caret
-    ∷ Hash ∷ Less ∷ Greater ∷ Assign ∷ OpenParen ∷ CloseParen ∷ OpenBrace ∷ CloseBrace ∷ OpenBracket
-    ∷ CloseBracket ∷ Semicolon ∷ Colon ∷ Comma ∷ Dot ∷ []
+    Dots ∷ Equal ∷ NotEqual ∷ LessEqual ∷ GreaterEqual ∷ Concat ∷ Plus ∷ Minus ∷ Star ∷ Slash
+    ∷ Percent ∷ Caret ∷ Hash ∷ Less ∷ Greater ∷ Assign ∷ OpenParen ∷ CloseParen ∷ OpenBrace
+    ∷ CloseBrace ∷ OpenBracket ∷ CloseBracket ∷ Semicolon ∷ Colon ∷ Comma ∷ Dot ∷ []
 
 -- the keyword that is spelled so
 unfoldable pub keyword_of : List ℕ → Option Kind

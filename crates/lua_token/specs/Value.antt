@@ -17,7 +17,8 @@ is_return_newline (b ∷ text) = b == 13 && first_is (λ c. c == 10) text
 -- the text, with a newline for each return that a newline follows
 abbrev pub plain_lines : List ℕ → List ℕ
 plain_lines [] = []
-plain_lines (b ∷ text) = if is_return_newline (b ∷ text) then plain_lines text else b ∷ plain_lines text
+plain_lines (b ∷ text) =
+    if is_return_newline (b ∷ text) then plain_lines text else b ∷ plain_lines text
 
 -- what follows a newline at the front
 abbrev pub without_newline : List ℕ → List ℕ
@@ -37,7 +38,8 @@ QuotedBytes text bytes =
 -- the text begins with a long string of this level and of these bytes
 abbrev pub LongBytes : ℕ → List ℕ → List ℕ → Type 0
 LongBytes n text bytes =
-    (m : ℕ) × FirstClosing n (drop (n + 2) text) (Some m) × (bytes ≡ long_bytes (take m (drop (n + 2) text)))
+    (m : ℕ) × FirstClosing n (drop (n + 2) text) (Some m)
+    × (bytes ≡ long_bytes (take m (drop (n + 2) text)))
 
 -- the text, which begins so, begins with a string of these bytes
 abbrev pub StringBytes : Start → List ℕ → List ℕ → Type 0

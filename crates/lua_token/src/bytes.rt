@@ -1,6 +1,6 @@
 ghost use Rattle.std.specs.Prelude.{◌≡◌, ◌≤◌, length};
 ghost use Rattle.std.specs.List.{prefix_len};
-ghost use Rattle.lua_token.specs.Bytes.{is_letter, is_of};
+ghost use Rattle.lua_token.specs.Bytes.{is_letter, is_of, newlines};
 
 // The classes of bytes of which longest runs are taken.
 #[derive(Clone, Copy, Debug, PartialEq, Eq)]
@@ -44,4 +44,11 @@ pub(crate) fn run_length(bytes: &[u8], class: Class) -> usize
         n += 1;
     }
     n
+}
+
+// How many newlines a text has.
+pub(crate) fn newlines(text: &[u8]) -> usize
+    ensures { result ≡ newlines text.now }
+{
+    text.iter().filter(|b| **b == b'\n').count()
 }

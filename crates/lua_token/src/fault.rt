@@ -1,7 +1,4 @@
-ghost use Rattle.std.specs.Prelude.{◌≡◌};
-ghost use Rattle.lua_token.specs.declared.fault.LexWhat.TheVariants.{Memory};
-
-use std::alloc::AllocFailed;
+use love_base::Memory;
 
 /// What is wrong with a source.
 #[derive(Clone, Copy, Debug, PartialEq, Eq)]
@@ -33,10 +30,13 @@ pub struct LexFault {
     pub what: LexWhat,
 }
 
-impl<T: Drop> From<AllocFailed<T>> for LexFault {
-    ghost from_gives = { λ _ fault. fault ≡ record { line = 0; what = Memory } };
+impl From<Memory> for LexFault {
+    ghost use Rattle.std.specs.Prelude.{◌≡◌};
+    ghost use Rattle.lua_token.specs.declared.fault.LexWhat.TheVariants as what;
 
-    fn from(_refused: AllocFailed<T>) -> LexFault {
+    ghost from_gives = { λ _ fault. fault ≡ record { line = 0; what = what.Memory } };
+
+    fn from(_want: Memory) -> LexFault {
         LexFault {
             line: 0,
             what: LexWhat::Memory,

@@ -25,7 +25,7 @@ pub fn some_answer(source: &[u8])
     let mut start = 0;
     while start < source.len() {
         match step_at(&source[start..]) {
-            Ok(step) => start += step.length(),
+            Ok(counted) => start += counted.step.length(),
             Err(_) => return,
         }
     }

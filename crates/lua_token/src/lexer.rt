@@ -1,4 +1,4 @@
-ghost use Rattle.std.specs.Prelude.{◌≡◌, ◌<◌, ◌^◌, ◌⊎◌, ◌++◌, ◌==◌, count_by, IfOk, IfErr, OnOk, Ok, Err, Result, List, All};
+ghost use Rattle.std.specs.Prelude.{◌≡◌, ◌<◌, ◌^◌, ◌⊎◌, ◌++◌, IfOk, IfErr, OnOk, Ok, Err, Result, List, All};
 ghost use Rattle.lua_token.specs.Cuts.{StandsIn, tokens_of};
 ghost use Rattle.lua_token.specs.Place.{step_length};
 ghost use Rattle.lua_token.specs.Answer.{Gives, IsOutcome, IsTokensAnswer, no_memory};
@@ -7,27 +7,20 @@ ghost use Rattle.lua_token.specs.declared.token.Token.{Token as Piece};
 
 use crate::Token;
 use crate::fault::{LexFault, LexWhat};
-use crate::step::{Step, step_at};
+use crate::step::{Counted, Step, step_at};
+use love_base::Memory;
 use std::alloc::Global;
 
 // The greatest length of a source.
 pub(crate) const MAX_LENGTH: usize = 16_777_216;
 
-// How many newline bytes a text has.
-fn newlines(text: &[u8]) -> usize
-    ensures { result ≡ count_by (λ b. b == 10) text.now }
-{
-    text.iter().filter(|b| **b == b'\n').count()
-}
-
 // Puts the token of a step at the end, where it has one.
-fn put(tokens: &mut Vec<Token>, step: &Step, start: usize, line: usize) -> Result<(), LexFault>
+fn put(tokens: &mut Vec<Token>, step: &Step, start: usize, line: usize) -> Result<(), Memory>
     requires start { start < 2 ^ 32 }
     requires length { step_length step.now < 2 ^ 32 }
     requires line { line < 2 ^ 32 }
-    ensures ok { OnOk result
+    ensures { OnOk result
         (tokens.new.items ≡ tokens.old.items ++ tokens_of step.now start line) }
-    ensures err { IfErr result (λ fault. fault ≡ no_memory) }
 {
     if let Step::Found(kind, length) = step {
         tokens.push(Token {
@@ -80,11 +73,10 @@ fn cut(alloc: Global, source: &[u8]) -> Result<Vec<Token>, LexFault>
     let mut line = 1;
     while start < source.len() {
         match step_at(&source[start..]) {
-            Ok(step) => {
+            Ok(Counted { step, newlines }) => {
                 put(&mut tokens, &step, start, line)?;
-                let end = start + step.length();
-                line += newlines(&source[start..end]);
-                start = end;
+                start += step.length();
+                line += newlines;
             }
             Err(what) => {
                 return Err(LexFault {

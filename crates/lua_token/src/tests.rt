@@ -12,7 +12,8 @@ const PLACES: [(&[u8], &str); 26] = [
     (b"\x0b\x0c\ta", "Name@3+1:1 "),
     (
         b"a~=b<=c>=d==e",
-        "Name@0+1:1 NotEqual@1+2:1 Name@3+1:1 LessEqual@4+2:1 Name@6+1:1 GreaterEqual@7+2:1 Name@9+1:1 Equal@10+2:1 Name@12+1:1 ",
+        "Name@0+1:1 NotEqual@1+2:1 Name@3+1:1 LessEqual@4+2:1 Name@6+1:1 GreaterEqual@7+2:1 \
+         Name@9+1:1 Equal@10+2:1 Name@12+1:1 ",
     ),
     (
         b"+-*/%^#",
@@ -20,7 +21,9 @@ const PLACES: [(&[u8], &str); 26] = [
     ),
     (
         b"< > =(){}[];:,.",
-        "Less@0+1:1 Greater@2+1:1 Assign@4+1:1 OpenParen@5+1:1 CloseParen@6+1:1 OpenBrace@7+1:1 CloseBrace@8+1:1 OpenBracket@9+1:1 CloseBracket@10+1:1 Semicolon@11+1:1 Colon@12+1:1 Comma@13+1:1 Dot@14+1:1 ",
+        "Less@0+1:1 Greater@2+1:1 Assign@4+1:1 OpenParen@5+1:1 CloseParen@6+1:1 OpenBrace@7+1:1 \
+         CloseBrace@8+1:1 OpenBracket@9+1:1 CloseBracket@10+1:1 Semicolon@11+1:1 Colon@12+1:1 \
+         Comma@13+1:1 Dot@14+1:1 ",
     ),
     (b"....", "Dots@0+3:1 Dot@3+1:1 "),
     (b"a..b", "Name@0+1:1 Concat@1+2:1 Name@3+1:1 "),

@@ -1,8 +1,7 @@
-use Rattle.std.proofs.Common.{◌≡◌, ℕ, ◌+◌, List, [], drop, length, Ok, Err, inl, inr, refl, subst, arith}
+use Rattle.std.proofs.Common.{◌≡◌, ℕ, List, [], length, Ok, Err, inl, inr, refl, subst, arith}
 use Rattle.lua_token.specs.Answer.{too_long}
 use Rattle.lua_token.specs.Place.{StandsAt}
 use Rattle.lua_token.specs.Cuts.{Between, line_of, nothing}
-use Rattle.lua_token.specs.declared.token.Token.{Token}
 use Rattle.lua_token.proofs.Parts.{rest_is}
 use Rattle.lua_token.proofs.Steps.{further}
 use Rattle.lua_token.proofs.laws.some_answer.Goals as goal
@@ -21,11 +20,11 @@ pub loop-start-preserved : goal.loop-start-preserved
 loop-start-preserved c =
     let source = c.args.source.now in
     let place = c.loop-start.start in
-    let at = subst (λ (text : List ℕ). StandsAt text (Ok c.in-Ok.step)) (rest_is place source) c.in-Ok.ensures.value in
+    let at = subst (λ (text : List ℕ). StandsAt text (Ok c.in-Ok.counted.step)) (rest_is place source) c.in-Ok.ensures.value in
     record {
       short = c.loop-start.invariant.short;
       within = omega (arith, c.in-Ok.ensures.fits, c.length-start.ensures);
-      so_far = further source c.loop-start.invariant.so_far.0 place c.length-start.result c.in-Ok.step c.loop-start.invariant.so_far.1 at (omega (arith, c.in-Ok.ensures.fits)) c.length-start.ensures;
+      so_far = further source c.loop-start.invariant.so_far.0 place c.length-start.result c.in-Ok.counted.step c.loop-start.invariant.so_far.1 at (omega (arith, c.in-Ok.ensures.fits)) c.length-start.ensures;
     }
 
 pub returns-in-Err : goal.returns-in-Err

@@ -11,4 +11,4 @@ none_past body k n past at = let e = at_drop_all (level 93) body k past in cc
 
 pub returns-clause-value : goal.returns-clause-value
 returns-clause-value c = λ k at.
-    elim (cases_lt k c.loop-at.at) [ inl before ↦ c.loop-at.invariant k before at | inr past ↦ none_past c.args.body.now k c.args.wanted (omega arith) at ]
+    elim (cases_lt k c.loop-at.at) [ inl before ↦ c.loop-at.invariant.none k before at | inr past ↦ none_past c.args.body.now k c.args.wanted (omega arith) at ]
