@@ -14,9 +14,11 @@ fn five(alloc: Global) -> Result<Data, Memory> {
 
 // Whether Data reads as these bytes, under this name.
 fn reads(data: &Data, bytes: &[u8], name: Option<&[u8]>) -> bool {
-    data.size() == bytes.len()
-        && data.bytes() == bytes
-        && data.name().map(|name| name.bytes()) == name
+    let named = match (data.name(), name) {
+        (Some(found), Some(name)) => found.bytes() == name,
+        (found, name) => found.is_none() && name.is_none(),
+    };
+    named && data.size() == bytes.len() && data.bytes() == bytes
 }
 
 // Whether the view of so many bytes from there on is this part, which has no name, or is none.
@@ -68,7 +70,7 @@ fn threads_read_the_same_bytes(rt: HostRuntime) -> Result<(), Fail> {
     let mine = Data::new(rt.alloc(), b"abcde", None)?;
     let theirs = mine.share()?;
     let (sent, lent) = thread::join(&rt, move || theirs.size(), || mine.size());
-    assert_eq!(rt; (sent, lent), (5, 5));
+    assert!(rt; sent == 5 && lent == 5);
     is_send_and_sync(mine);
     Ok(())
 }

@@ -29,11 +29,14 @@ fn grown(alloc: Global, numbers: &[u32]) -> Option<List<u32>> {
 
 // Whether the list tells the numbers of itself, in each of its ways.
 fn tells(list: &List<u32>, numbers: &[u32]) -> bool {
-    let places = [0, 1, 2, 3, usize::MAX];
+    for at in [0, 1, 2, 3, usize::MAX] {
+        if list.get(at) != numbers.get(at) {
+            return false;
+        }
+    }
     list.len() == numbers.len()
         && list.is_empty() == numbers.is_empty()
         && list.as_slice() == numbers
-        && places.iter().all(|at| list.get(*at) == numbers.get(*at))
 }
 
 #[test]
@@ -62,10 +65,6 @@ fn a_list_holds_what_cannot_be_copied(rt: HostRuntime) -> Result<(), Fail> {
         let pushed: Result<(), (Text, Memory)> = names.push(Text::of(rt.alloc(), bytes)?);
         assert!(rt; pushed.is_ok());
     }
-    assert!(rt;
-        names
-            .get(1)
-            .is_some_and(|name| name.bytes() == b"two".as_slice())
-    );
+    assert!(rt; matches!(names.get(1), Some(name) if name.bytes() == b"two".as_slice()));
     Ok(())
 }

@@ -26,13 +26,19 @@ enum Answer {
     Failed,
 }
 
+// Whether the names are these paths, in this order.
+fn are(names: &[Text], paths: &[&[u8]]) -> bool {
+    for at in 0..names.len().min(paths.len()) {
+        if names[at].bytes() != paths[at] {
+            return false;
+        }
+    }
+    names.len() == paths.len()
+}
+
 fn of_listing(listed: Result<Vec<Text>, FolderErr>, paths: &[&[u8]]) -> Answer {
     match listed {
-        Ok(names)
-            if names
-                .iter()
-                .map(|name| name.bytes())
-                .eq(paths.iter().copied()) => { Answer::Right }
+        Ok(names) if are(&names, paths) => Answer::Right,
         Err(FolderErr::Failed) => Answer::Failed,
         _ => Answer::Wrong,
     }
