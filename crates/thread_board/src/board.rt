@@ -5,7 +5,7 @@ ghost use Rattle.thread_board.specs.Register.{numbered, change_thread};
 use crate::place::{Started, Thread};
 use crate::{BoardChange, BoardEntry, BoardFault, Job};
 use indexmap::IndexMap;
-use love_base::{List, Stamp, Text};
+use love_base::{List, Memory, Stamp, Text};
 use std::alloc::Global;
 use std::collections::VecDeque;
 use std::marker::Model;
@@ -134,7 +134,7 @@ impl Board {
     ghost use Rattle.thread_board.specs.Answers.{answer, adds, only, words, channel_limit, thread_limit, start_limit};
     ghost use Rattle.thread_board.specs.Calls.{Answers, refused, channel_answer, thread_answer, started_answer};
     ghost use Rattle.thread_board.specs.Lawful.{IsLater, IsLawful};
-    ghost use Rattle.thread_board.specs.Register.{register, channel_of, running, state_of, error_of, is_working, HasBegun};
+    ghost use Rattle.thread_board.specs.Register.{register, channel_of, running, state_of, error_of, is_working, HasBegun, IsIdle};
     ghost use Rattle.thread_board.specs.Sound.{owed, MayStart};
     ghost use Rattle.thread_board.specs.View.{with_entry};
 
@@ -156,13 +156,13 @@ impl Board {
         }
     }
 
-    /// A board for so many workers, at most so many states of which run at once. It keeps room for
-    /// state 0's end.
+    /// A board for so many workers. At most as many states run at once. It keeps room for state 0's
+    /// end.
     ///
     /// # Errors
     ///
-    /// [`BoardFault::Memory`] where there is none.
-    pub fn new(alloc: Global, workers: u32) -> Result<Board, love_base::Memory>
+    /// [`Memory`] where there is no room.
+    pub fn new(alloc: Global, workers: u32) -> Result<Board, Memory>
         requires { 0 < workers }
         ensures { IfOk result (λ board. board ≡ record { workers = workers; history = [] }) }
     {
@@ -344,6 +344,14 @@ impl Board {
         ensures already { (state : ℕ) → (result ≡ Err (BoardFault.AlreadyRunning state))
             ↔ (((register self.old.history).main_end ≡ Option.None)
             × (state_of (register self.old.history) thread ≡ Option.Some state)) }
+        ensures many_starts { (result ≡ Err BoardFault.TooManyStarts)
+            ↔ (IsIdle (register self.old.history) thread
+            × (start_limit ≤ length (register self.old.history).states)) }
+        ensures many_running { (count : ℕ) → (result ≡ Err (BoardFault.TooManyRunning count))
+            ↔ (IsIdle (register self.old.history) thread
+            × (length (register self.old.history).states < start_limit)
+            × (running (register self.old.history) ≡ self.old.workers)
+            × (count ≡ self.old.workers)) }
         ensures unchanged { OnErr result (self.new ≡ self.old) }
         ensures answer { Answers self.old (Ask.Start thread args) by.state (started_answer
             (BoardChange.Start (length (register self.old.history).states + 1) thread args)
@@ -384,6 +392,14 @@ impl Board {
         ensures already { (state : ℕ) → (result ≡ Err (BoardFault.AlreadyRunning state))
             ↔ (((register self.now.history).main_end ≡ Option.None)
             × (state_of (register self.now.history) thread ≡ Option.Some state)) }
+        ensures many_starts { (result ≡ Err BoardFault.TooManyStarts)
+            ↔ (IsIdle (register self.now.history) thread
+            × (start_limit ≤ length (register self.now.history).states)) }
+        ensures many_running { (count : ℕ) → (result ≡ Err (BoardFault.TooManyRunning count))
+            ↔ (IsIdle (register self.now.history) thread
+            × (length (register self.now.history).states < start_limit)
+            × (running (register self.now.history) ≡ self.now.workers)
+            × (count ≡ self.now.workers)) }
         ensures refused { (by : ℕ) → IfErr result (λ fault.
             Answers self.now (Ask.Start thread args.now) by (refused fault)) }
     {

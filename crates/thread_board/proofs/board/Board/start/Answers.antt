@@ -43,3 +43,8 @@ returns-in-Err-clause-already c = λ state.
 
 pub returns-in-Err-clause-answer : goal.returns-in-Err-clause-answer
 returns-in-Err-clause-answer c = c.in-Err.ensures.refused c.args.by.state
+
+pub returns-in-Err-clause-many_running : goal.returns-in-Err-clause-many_running
+returns-in-Err-clause-many_running c = λ count.
+    let says = c.in-Err.ensures.many_running count in
+    (λ e. says.0 (cc), λ busy. let same = says.1 busy in cc)
