@@ -6,7 +6,7 @@ use Rattle.variant.specs.declared.reply.Refusal.TheVariants.{TooManyChannels as 
 use Rattle.variant.specs.declared.action.Deed.TheVariants.{Asked}
 use Rattle.thread_board.specs.declared.entry.BoardChange.{BoardChange}
 use Rattle.thread_board.specs.declared.entry.BoardEntry.{BoardEntry}
-use Rattle.thread_board.specs.declared.board.Named.{Named}
+use Rattle.thread_board.specs.declared.making.Named.{Named}
 use Rattle.thread_board.specs.declared.fault.BoardFault.{BoardFault}
 use Rattle.thread_board.specs.declared.fault.BoardFault.TheVariants.{TooManyChannels, TooManyThreads, TooManyRunning, TooManyStarts, AlreadyRunning, Closed, NoSuchThread, Memory}
 use Rattle.thread_board.specs.Answers.{Answer, only, adds, answer}
