@@ -1,10 +1,9 @@
 -- What stands on the board after a history.
-use Rattle.std.specs.Prelude.{◌≡◌, ℕ, zero, suc, ◌+◌, ◌-◌, ◌≤◌, nat_eq, nat_le, Bool, true, false, not, ◌&&◌, if◌then◌else◌, List, [], ◌∷◌, ◌++◌, drop, fold, length, is_some, slice_get, slice_set, Option, Some, None, IsSome}
+use Rattle.std.specs.Prelude.{◌≡◌, ℕ, zero, suc, ◌+◌, ◌-◌, ◌≤◌, nat_eq, nat_le, Bool, true, false, not, ◌&&◌, if◌then◌else◌, List, [], ◌∷◌, ◌++◌, drop, fold, slice_get, slice_set, Option, Some, None, IsSome}
 use Rattle.std.specs.Cmp.Lexicographic.{pointwise}
 use Rattle.std.specs.Option.{option_and_then, option_map_or}
 use Rattle.variant.specs.End.{end_text}
 use Rattle.variant.specs.declared.message.Variant.{Variant}
-use Rattle.variant.specs.declared.source.Source.{Source}
 use Rattle.thread_board.specs.declared.entry.BoardEntry.{BoardEntry}
 use Rattle.thread_board.specs.declared.entry.BoardChange.{BoardChange}
 use Rattle.thread_board.specs.declared.entry.BoardChange.TheVariants.{Name, NewChannel, NewThread, Start, Begin, End, MainEnd}

@@ -1,5 +1,5 @@
 //! What is made on a board: Channels, with a name or without, and Threads.
-ghost use Rattle.std.specs.Prelude.{◌≡◌, ◌+◌, ◌≤◌, ◌↔◌, length, Option, is_none, if◌then◌else◌, true, IfOk, OnErr};
+ghost use Rattle.std.specs.Prelude.{◌≡◌, ◌+◌, ◌≤◌, ◌↔◌, ℕ, length, Option, is_none, if◌then◌else◌, true, IfOk, IsOkAnd, OnErr};
 
 use crate::board::Board;
 use crate::entry::append;
@@ -34,7 +34,7 @@ impl Board {
     ghost use Rattle.thread_board.specs.View.{with_entry};
 
     /// The Channel of a name, which is made where no Channel has the name yet (LÖVE wiki,
-    /// `love.thread.getChannel`). A known name changes nothing.
+    /// `love.thread.getChannel`). A known name changes nothing, and is never refused.
     ///
     /// Expected time in the length of the name, whatever the length of the history.
     ///
@@ -51,6 +51,9 @@ impl Board {
         ensures place { IfOk result (λ given. given.place ≡ length self.new.history) }
         ensures changed { IfOk result (λ given.
             given.changed ≡ is_none (channel_of (register self.old.history).names name.now)) }
+        ensures known { (channel : ℕ)
+            → channel_of (register self.old.history).names name.now ≡ Option.Some channel
+            → IsOkAnd result (λ given. given.channel ≡ channel) }
         ensures full { (result ≡ Err BoardFault.TooManyChannels)
             ↔ ((channel_of (register self.old.history).names name.now ≡ Option.None)
             × (channel_limit ≤ (register self.old.history).channels)) }
