@@ -13,7 +13,7 @@ use Rattle.turn_desk.specs.declared.view.Own.{Own}
 use Rattle.turn_desk.specs.declared.view.Phase.TheVariants.{Free, Taken}
 use Rattle.turn_desk.specs.declared.view.Spot.{Spot}
 use Rattle.turn_desk.specs.declared.view.View.{View}
-use Rattle.turn_desk.specs.View.{blank, spot, fronts_of, refused, taken, published, freed, looked, opening}
+use Rattle.turn_desk.specs.View.{blank, spot, refused, taken, published, freed, looked, opening}
 use Rattle.love_base.specs.Prefix.{IsPrefix}
 use Rattle.love_base.proofs.Prefixes.{whole, further}
 use Rattle.turn_desk.specs.Steps.{Continues, HasTaken, TakesAfterRefusals}
