@@ -1,20 +1,20 @@
 -- The table of answers, row by row.
-use Rattle.std.proofs.Common.{◌≡◌, ◌≢◌, ℕ, suc, ◌+◌, ◌-◌, ◌<◌, ◌≤◌, Bool, true, false, not, nat_eq, nat_lt, nat_le, List, [], ◌∷◌, length, Option, Some, None, refl, sym, ap, ◌∙◌, arith}
+use Rattle.std.proofs.Common.{◌≡◌, ℕ, ◌+◌, ◌-◌, ◌<◌, ◌≤◌, true, false, nat_lt, List, [], ◌∷◌, length, Option, Some, None, refl, sym, ap, ◌∙◌, arith}
 use Rattle.std.specs.Prelude.{IfSome}
 use Rattle.std.specs.List.{slice_get}
 use Rattle.variant.specs.declared.message.Variant.{Variant}
-use Rattle.variant.specs.declared.ask.Ask.TheVariants.{Push, Supply, Pop, Peek, Clear as AskClear, Demand, Await, Enter as AskEnter, Leave as AskLeave}
-use Rattle.variant.specs.declared.reply.Reply.TheVariants.{Done, Nothing, Flag, Id, Value, Refused}
-use Rattle.variant.specs.declared.reply.Refusal.TheVariants.{Full, WouldWaitInside}
+use Rattle.variant.specs.declared.ask.Ask.TheVariants.{Push, Peek}
+use Rattle.variant.specs.declared.reply.Reply.TheVariants.{Id, Refused}
+use Rattle.variant.specs.declared.reply.Refusal.TheVariants.{Full}
 use Rattle.variant.specs.declared.action.Deed.{Deed}
 use Rattle.variant.specs.declared.action.Deed.TheVariants.{Asked}
 use Rattle.channel_core.specs.declared.entry.Entry.{Entry}
 use Rattle.channel_core.specs.declared.entry.Change.{Change}
-use Rattle.channel_core.specs.declared.entry.Change.TheVariants.{Put, Take, Clear, Enter}
+use Rattle.channel_core.specs.declared.entry.Change.TheVariants.{Put}
 use Rattle.variant.specs.declared.reply.Reply.{Reply}
-use Rattle.channel_core.specs.History.{sent, received, queue, front, holder}
+use Rattle.channel_core.specs.History.{sent, queue, front, holder}
 use Rattle.channel_core.specs.Lawful.{entry_limit, IsAdmitted}
-use Rattle.channel_core.specs.Answers.{Answer, only, adds, with_room, pushed, popped, peeked, cleared, answer, answer_within, holds, keeps_out}
+use Rattle.channel_core.specs.Answers.{only, adds, with_room, peeked, answer, answer_within, holds, keeps_out}
 use Rattle.channel_core.specs.Calls.{Answers, peek_answer}
 
 -- who is admitted isn't kept out

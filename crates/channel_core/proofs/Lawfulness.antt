@@ -1,16 +1,14 @@
 -- Which entries keep a history lawful, and what every lawful history has.
-use Rattle.std.proofs.Common.{◌≡◌, ◌≢◌, ◌↔◌, ℕ, ◌+◌, ◌<◌, ◌≤◌, Bool, false, IsTrue, List, [], ◌∷◌, ◌++◌, length, Option, Some, None, refl, sym, ap, subst, ◌∙◌, inl, inr, arith, append-nil, append_assoc, length-append}
+use Rattle.std.proofs.Common.{◌≡◌, ◌≢◌, ◌↔◌, ℕ, ◌+◌, ◌<◌, ◌≤◌, Bool, false, IsTrue, List, [], ◌∷◌, ◌++◌, length, Option, Some, None, sym, subst, ◌∙◌, inl, inr, arith, length-append}
 use Rattle.std.specs.Prelude.{IfSome}
 use Rattle.std.proofs.lemmas.Bool.{cases_lt, false≢true}
-use Rattle.std.proofs.lemmas.List.{same_from_push}
 use Rattle.std.proofs.lemmas.List.Elements.{All-nil, All-push, All-weaker}
-use Rattle.variant.specs.Histories.{AtEach}
 use Rattle.variant.proofs.Histories.{by_entries, AtEach-before, AtEach-last}
 use Rattle.love_base.specs.declared.stamp.Stamp.{Stamp}
 use Rattle.channel_core.specs.declared.entry.Entry.{Entry}
 use Rattle.channel_core.specs.declared.entry.Change.{Change}
 use Rattle.channel_core.specs.declared.entry.Change.TheVariants.{Put, Take, Clear, Enter, Leave}
-use Rattle.channel_core.specs.History.{Counts, counts_after, counts, sent, received, holder, holder_after, leave_by}
+use Rattle.channel_core.specs.History.{Counts, counts_after, counts, sent, received, holder, leave_by}
 use Rattle.channel_core.specs.Lawful.{entry_limit, FindsMessage, FindsSection, FindsRoom, IsAdmitted, IsLater, NumbersBelow, MayFollow, HasMessages, IsLawful}
 use Rattle.channel_core.proofs.Histories.{counts-push, holder-push, waits-lt}
 

@@ -1,4 +1,5 @@
 pub mod Command
+pub mod Ending
 pub mod Outcome
 pub mod Program
 pub mod Run

@@ -12,6 +12,9 @@ use Rattle.love_run.specs.Command.{folder_named}
 use Rattle.love_run.specs.Program.{HasForm, IsProgram}
 use Rattle.love_run.specs.Run.{history, output, IsCut}
 use Rattle.love_run.specs.declared.statement.Statement.{Statement}
+use Rattle.love_run.specs.Ending.{code_of}
+use Rattle.love_run.specs.declared.ending.Ending.{Ending}
+use Rattle.love_run.specs.declared.ending.Ending.TheVariants.{Done, Usage, NoMain, Unreadable, Unwritten, OutOfForm, OutOfMemory}
 use Rattle.love_run.specs.declared.load.LoadFault.{LoadFault}
 use Rattle.love_run.specs.declared.load.LoadFault.TheVariants as load
 
@@ -70,28 +73,28 @@ abbrev pub load_fault_of : FolderErr → LoadFault
 load_fault_of folder.Failed = load.Folder
 load_fault_of folder.Memory = load.Memory
 
--- the status of a game that isn't loaded
-abbrev pub status_of : LoadFault → ℕ
-status_of load.NoMain = 65
-status_of load.Folder = 66
-status_of load.OutOfForm = 69
-status_of load.Memory = 70
+-- how the program ends where the game isn't loaded
+abbrev pub ending_of : LoadFault → Ending
+ending_of load.NoMain = NoMain
+ending_of load.Folder = Unreadable
+ending_of load.OutOfForm = OutOfForm
+ending_of load.Memory = OutOfMemory
 
--- the status of a run, where memory ran out or not, and of its writing
-abbrev pub end_status : Result ⊤ Memory → Result ⊤ SinkErr → ℕ
-end_status (Err memory) written = 70
-end_status (Ok done) (Ok all) = 0
-end_status (Ok done) (Err sink.Failed) = 67
-end_status (Ok done) (Err sink.Memory) = 70
+-- how it ends after a run, where memory ran out or not, and its writing
+abbrev pub run_ending : Result ⊤ Memory → Result ⊤ SinkErr → Ending
+run_ending (Err memory) written = OutOfMemory
+run_ending (Ok done) (Ok all) = Done
+run_ending (Ok done) (Err sink.Failed) = Unwritten
+run_ending (Ok done) (Err sink.Memory) = OutOfMemory
 
 -- the status says that nothing ran: the words, the folder or `main.lua` were refused
 abbrev pub SaysNothingRan : ℕ → Type 0
-SaysNothingRan status = (status ≡ 64) ⊎ (status ≡ 65) ⊎ (status ≡ 66) ⊎ (status ≡ 69)
+SaysNothingRan status = (status ≡ code_of Usage) ⊎ (status ≡ code_of NoMain) ⊎ (status ≡ code_of Unreadable) ⊎ (status ≡ code_of OutOfForm)
 
 -- the status says that the game ran to its end, whether or not its output was written
 abbrev pub SaysRanWhole : ℕ → Type 0
-SaysRanWhole status = (status ≡ 0) ⊎ (status ≡ 67)
+SaysRanWhole status = (status ≡ code_of Done) ⊎ (status ≡ code_of Unwritten)
 
 -- the statuses of the program
 abbrev pub IsStatus : ℕ → Type 0
-IsStatus status = SaysNothingRan status ⊎ SaysRanWhole status ⊎ (status ≡ 70)
+IsStatus status = SaysNothingRan status ⊎ SaysRanWhole status ⊎ (status ≡ code_of OutOfMemory)

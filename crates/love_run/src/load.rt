@@ -1,11 +1,11 @@
 ghost use Rattle.std.specs.Prelude.{◌≡◌, ◌+◌, ◌<◌, ◌≤◌, length, IfOk, IfSome, IsErrOf};
 ghost use Rattle.love_base.specs.Fault.{HasRisen};
 ghost use Rattle.channel_core.specs.Lawful.{entry_limit};
-ghost use Rattle.love_run.specs.Outcome.{HasNoMain, HasOtherForm, IsProgramOf, status_of};
+ghost use Rattle.love_run.specs.Outcome.{HasNoMain, HasOtherForm, IsProgramOf, ending_of};
 
+use crate::ending::Ending;
 use crate::reader::{ReadFault, read_program};
 use crate::statement::Statement;
-use crate::status::{NO_MAIN, OUT_OF_FORM, OUT_OF_MEMORY, UNREADABLE};
 use love_base::{Folder, FolderErr, Memory, Text};
 use std::alloc::Global;
 
@@ -25,14 +25,15 @@ pub(crate) enum LoadFault {
 }
 
 impl LoadFault {
-    pub(crate) fn status(self) -> u8
-        ensures { result ≡ status_of self }
+    // How the program ends.
+    pub(crate) fn ending(self) -> Ending
+        ensures { result ≡ ending_of self }
     {
         match self {
-            LoadFault::NoMain => NO_MAIN,
-            LoadFault::Folder => UNREADABLE,
-            LoadFault::OutOfForm => OUT_OF_FORM,
-            LoadFault::Memory => OUT_OF_MEMORY,
+            LoadFault::NoMain => Ending::NoMain,
+            LoadFault::Folder => Ending::Unreadable,
+            LoadFault::OutOfForm => Ending::OutOfForm,
+            LoadFault::Memory => Ending::OutOfMemory,
         }
     }
 }

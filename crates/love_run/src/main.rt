@@ -5,18 +5,19 @@
 #![tactic(auto)]
 
 mod command;
+mod ending;
 mod load;
 mod love;
 mod reader;
 mod report;
 mod run;
 mod statement;
-mod status;
 #[cfg(test)]
 mod tests;
 mod words;
 mod writer;
 
+pub use ending::Ending;
 pub use love::love;
 use love_base::{RealFolder, RealSink};
 pub use report::Report;
@@ -29,9 +30,9 @@ fn main(rt: HostRuntime) -> ExitCode {
             let mut sink = RealSink::new(rt);
             love(rt.alloc(), words.as_slice(), &mut folder, &mut sink).status
         }
-        Err(fault) => fault.status(),
+        Err(fault) => fault.ending().code(),
     };
-    if let Some(message) = status::message(status) {
+    if let Some(message) = ending::message_of(status) {
         // Where standard error can't be written either, the status alone says it.
         let _ = eprintln!(rt; "love_run: {message}");
     }

@@ -1,5 +1,7 @@
 ghost use Rattle.std.specs.Prelude.{◌≡◌, []};
+ghost use Rattle.love_run.specs.Ending.{code_of};
 
+use crate::ending::Ending;
 use channel_core::Channel;
 use love_base::{List, Text};
 use std::alloc::Global;
@@ -17,13 +19,13 @@ pub struct Report {
 
 impl Report {
     // A report of a run that didn't begin.
-    pub(crate) fn unbegun(alloc: Global, status: u8) -> Report
-        ensures status { result.status ≡ status }
+    pub(crate) fn unbegun(alloc: Global, ending: Ending) -> Report
+        ensures status { result.status ≡ code_of ending }
         ensures out { result.out ≡ [] }
         ensures channels { result.channels ≡ [] }
     {
         Report {
-            status,
+            status: ending.code(),
             out: Text::from_vec(Vec::new(alloc)),
             channels: List::new(alloc),
         }

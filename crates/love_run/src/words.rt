@@ -1,4 +1,4 @@
-use crate::status::{OUT_OF_MEMORY, USAGE};
+use crate::ending::Ending;
 use love_base::Text;
 use std::rt::Env;
 use std::{env, io};
@@ -12,10 +12,11 @@ pub(crate) enum WordsFault {
 }
 
 impl WordsFault {
-    pub(crate) fn status(self) -> u8 {
+    // How the program ends.
+    pub(crate) fn ending(self) -> Ending {
         match self {
-            WordsFault::NotText => USAGE,
-            WordsFault::Memory => OUT_OF_MEMORY,
+            WordsFault::NotText => Ending::Usage,
+            WordsFault::Memory => Ending::OutOfMemory,
         }
     }
 }

@@ -1,4 +1,4 @@
-ghost use Rattle.std.specs.Prelude.{◌≡◌, ◌≤◌, ◌<◌, length};
+ghost use Rattle.std.specs.Prelude.{◌≡◌, length};
 ghost use Rattle.lua_pattern.specs.Element.{named, escaped, element_at, ElementFits};
 
 use crate::class::{Member, Named};

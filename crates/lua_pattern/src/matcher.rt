@@ -1,5 +1,5 @@
-ghost use Rattle.std.specs.Prelude.{◌≡◌, ◌≤◌, ◌<◌, ◌+◌, ◌-◌, ℕ, [], ◌∷◌, ◌++◌, drop, length, slice_get, slice_range, count_by, IfSome, Option};
-ghost use Rattle.lua_pattern.specs.Ways.{ways, after, at_each, falling, rising, moves, balanced, closing, part, repeated, onward, with_captures, close, IsFirstWay};
+ghost use Rattle.std.specs.Prelude.{◌≡◌, ◌≤◌, ◌+◌, [], ◌∷◌, ◌++◌, drop, length, slice_range, count_by, IfSome};
+ghost use Rattle.lua_pattern.specs.Ways.{ways, after, at_each, falling, rising, moves, balanced, closing, part, repeated, with_captures, close, IsFirstWay};
 ghost use Rattle.lua_pattern.specs.Tree.{begins_capture};
 ghost use Rattle.std.specs.List.{prefix_len};
 ghost use Rattle.lua_pattern.specs.Class.{takes};

@@ -1,6 +1,6 @@
-ghost use Rattle.std.specs.Prelude.{◌≡◌, ◌≤◌, ◌<◌, ◌⊎◌, ℕ, [], length, Result, Option, IfOk, IfErr, IfSome, Ok, Err};
+ghost use Rattle.std.specs.Prelude.{◌≡◌, ◌≤◌, ◌⊎◌, [], length, Result, IfOk, IfErr, IfSome, Ok, Err};
 ghost use Rattle.lua_pattern.specs.Tree.{Tree};
-ghost use Rattle.lua_pattern.specs.Reading.{first_is, is_anchored, IsPatternAnswer, Gives};
+ghost use Rattle.lua_pattern.specs.Reading.{IsPatternAnswer, Gives};
 ghost use Rattle.lua_pattern.specs.Found.{IsFound, IsFoundAs, MatchFits};
 ghost use Rattle.lua_pattern.specs.declared.fault.PatternFault.{PatternFault as Fault};
 ghost use Rattle.lua_pattern.specs.declared.fault.PatternFault.TheVariants.{Memory};

@@ -1,4 +1,4 @@
-ghost use Rattle.std.specs.Prelude.{◌≡◌, ◌≤◌, ◌<◌, ◌+◌, ◌⊎◌, ◌-◌, [], ◌∷◌, drop, length, count_by, true, Option, Some, None, IfOk, IfErr, OnOk, Ok, Err, IsTrue, slice_get};
+ghost use Rattle.std.specs.Prelude.{◌≡◌, ◌≤◌, ◌<◌, ◌+◌, ◌⊎◌, ◌-◌, [], ◌∷◌, drop, length, count_by, IfOk, IfErr, Ok, Err, IsTrue, slice_get};
 ghost use Rattle.lua_pattern.specs.Reading.{first_is, is_part, with_repeat, IsSetOf, IsSet, Stands, StartFits, refused, too_many, ItemAt, captures_after, Reads};
 ghost use Rattle.lua_pattern.specs.Tree.{begins_capture, most_captures, most_items};
 ghost use Rattle.lua_pattern.specs.declared.fault.PatternFault.TheVariants.{Memory};

@@ -1,4 +1,4 @@
-ghost use Rattle.std.specs.Prelude.{◌≡◌, ◌≤◌, ◌⊎◌, ◌+◌, ◌<◌, ◌^◌, ℕ, List, false, ◌++◌, IfOk, IfErr, IfSome, OnOk, Ok, Err, length, slice_get};
+ghost use Rattle.std.specs.Prelude.{◌≡◌, ◌⊎◌, false, IfOk, IfErr, IfSome, OnOk, Ok, Err, length, slice_get};
 ghost use Rattle.lua_pattern.specs.Found.{MatchFits, CaptureFits};
 ghost use Rattle.lua_pattern.specs.Gsub.{capture_bytes, parts, behind_percent, piece_of, next_of, expanded, Puts, Refuses};
 ghost use Rattle.lua_pattern.specs.declared.replacement.ReplaceFault.TheVariants.{Memory};

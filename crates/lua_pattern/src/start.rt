@@ -1,4 +1,4 @@
-ghost use Rattle.std.specs.Prelude.{◌≡◌, ◌≤◌, ◌+◌, length};
+ghost use Rattle.std.specs.Prelude.{◌≡◌, ◌+◌, length};
 ghost use Rattle.lua_pattern.specs.Reading.{start_of, start_behind_percent, balance_start, repeat_of, StartFits};
 
 use crate::class::Member;

@@ -4,7 +4,7 @@ use std::test::*;
 
 // Patterns, texts, the place from which on is sought, and what lua5.1's string.find answers: where
 // the match begins and ends, and its captures.
-const FOUND: [(&[u8], &[u8], usize, &str); 25] = [
+const FOUND: [(&[u8], &[u8], usize, &str); 32] = [
     (b"^(%w+)%s*=%s*(%d+)$", b"key = 42", 0, "0-8 [key] [42]"),
     (b"%b()", b"f(a(b)c)d", 0, "1-8"),
     (b"%$(%w+)", b"$name is $age", 0, "0-5 [name]"),
@@ -30,6 +30,13 @@ const FOUND: [(&[u8], &[u8], usize, &str); 25] = [
     (b"[\x80-\xff]+", b"a\xc3\xa9b", 0, "1-3"),
     (b"%P%U%L%C", b"a1B ", 0, "0-4"),
     (b"(-)", b"-", 0, "0-1 [-]"),
+    (b"a*", b"", 0, "0-0"),
+    (b"^$", b"", 0, "0-0"),
+    (b".", b"", 0, "none"),
+    (b"^b", b"ab", 0, "none"),
+    (b"c", b"abc", 3, "none"),
+    (b"$", b"abc", 3, "3-3"),
+    (b"%b()", b"(a", 0, "none"),
 ];
 
 // What this project reads otherwise than lua5.1, or what has no meaning there.

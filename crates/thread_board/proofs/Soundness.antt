@@ -1,6 +1,6 @@
 -- Which changes keep a board sound.
-use Rattle.std.proofs.Common.{◌≡◌, ◌≢◌, ℕ, suc, zero, ◌+◌, ◌-◌, ◌*◌, ◌<◌, ◌≤◌, Bool, true, false, not, nat_eq, nat_lt, nat_le, List, [], ◌∷◌, ◌++◌, length, drop, Option, Some, None, refl, sym, ap, subst, ◌∙◌, arith, add-one, length-append}
-use Rattle.std.specs.Prelude.{is_none, is_some, All, ⊤, ◌&&◌, slice_set}
+use Rattle.std.proofs.Common.{◌≡◌, ℕ, suc, ◌+◌, ◌-◌, ◌<◌, ◌≤◌, Bool, true, false, not, nat_eq, nat_lt, nat_le, List, [], ◌∷◌, ◌++◌, length, drop, Option, Some, None, refl, sym, ap, ◌∙◌, arith, add-one, length-append}
+use Rattle.std.specs.Prelude.{All, ◌&&◌}
 use Rattle.std.specs.Option.{option_map_or}
 use Rattle.std.proofs.lemmas.List.{length-set}
 use Rattle.std.proofs.lemmas.List.Elements.{All-push, All-weaker, All-set}
@@ -20,11 +20,11 @@ use Rattle.thread_board.specs.declared.entry.BoardChange.TheVariants.{Name, NewC
 use Rattle.thread_board.specs.declared.job.Job.{Job}
 use Rattle.thread_board.specs.declared.place.Started.{Started}
 use Rattle.thread_board.specs.declared.place.Thread.{Thread}
-use Rattle.thread_board.specs.Register.{Register, register, after_change, ended_as, started_as, change_thread, channel_of, numbered, running, state_of, is_working, HasBegun}
-use Rattle.thread_board.specs.Answers.{channel_limit, thread_limit, start_limit, answer, answer_by, adds}
-use Rattle.thread_board.specs.Lawful.{IsLater, MayFollow, IsLawful}
+use Rattle.thread_board.specs.Register.{Register, register, after_change, ended_as, started_as, channel_of, numbered, running, is_working}
+use Rattle.thread_board.specs.Answers.{channel_limit, thread_limit, start_limit, answer_by, adds}
+use Rattle.thread_board.specs.Lawful.{IsLater, MayFollow}
 use Rattle.thread_board.specs.Sound.{IsSound, NumberedFrom, MayStart, owed, main_owed, ended_count}
-use Rattle.thread_board.proofs.Registering.{register-push, length-change_thread, not_ended-started, not_ended-ended, not_ended-numbered, All-numbered, numbered-within}
+use Rattle.thread_board.proofs.Registering.{register-push, length-change_thread, not_ended-started, not_ended-numbered, All-numbered, numbered-within}
 
 -- an entry of a state
 abbrev entry : Stamp → BoardChange → BoardEntry

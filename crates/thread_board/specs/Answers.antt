@@ -1,6 +1,5 @@
 -- What the board answers, as a function of its history.
-use Rattle.std.specs.Prelude.{◌≡◌, ℕ, ◌+◌, ◌≤◌, nat_eq, nat_lt, nat_le, Bool, true, false, ◌&&◌, if◌then◌else◌, is_some, is_none, List, [], ◌∷◌, length, Option, Some, None}
-use Rattle.variant.specs.declared.message.Variant.{Variant}
+use Rattle.std.specs.Prelude.{◌≡◌, ℕ, ◌+◌, nat_eq, nat_lt, nat_le, true, false, ◌&&◌, if◌then◌else◌, is_some, is_none, List, [], ◌∷◌, length, Option, Some, None}
 use Rattle.variant.specs.declared.ask.Ask.{Ask}
 use Rattle.variant.specs.declared.ask.Ask.TheVariants.{Name as AskName, NewChannel as AskNewChannel, NewThread as AskNewThread, Start as AskStart, IsRunning, ErrorOf, WaitFor}
 use Rattle.variant.specs.declared.reply.Reply.{Reply}

@@ -1,12 +1,11 @@
 -- What the answers of a board's calls stand for in the table of answers.
-use Rattle.std.specs.Prelude.{◌≡◌, ℕ, true, false, List, Option, Some, None, Result, Ok, Err, if◌then◌else◌, ⊤}
+use Rattle.std.specs.Prelude.{◌≡◌, ℕ, true, false, Option, Some, None, Result, Ok, Err, if◌then◌else◌, ⊤}
 use Rattle.variant.specs.declared.ask.Ask.{Ask}
-use Rattle.variant.specs.declared.reply.Reply.TheVariants.{Done, Flag, Channel, Thread, Refused}
+use Rattle.variant.specs.declared.reply.Reply.TheVariants.{Flag, Channel, Thread, Refused}
 use Rattle.variant.specs.declared.reply.Refusal.TheVariants.{TooManyChannels as ManyChannels, TooManyThreads as ManyThreads, TooManyRunning as ManyRunning, TooManyStarts as ManyStarts, GameEnded}
 use Rattle.variant.specs.declared.action.Deed.TheVariants.{Asked}
 use Rattle.thread_board.specs.declared.entry.BoardChange.{BoardChange}
-use Rattle.thread_board.specs.declared.entry.BoardEntry.{BoardEntry}
-use Rattle.thread_board.specs.declared.board.Named.{Named}
+use Rattle.thread_board.specs.declared.making.Named.{Named}
 use Rattle.thread_board.specs.declared.fault.BoardFault.{BoardFault}
 use Rattle.thread_board.specs.declared.fault.BoardFault.TheVariants.{TooManyChannels, TooManyThreads, TooManyRunning, TooManyStarts, AlreadyRunning, Closed, NoSuchThread, Memory}
 use Rattle.thread_board.specs.Answers.{Answer, only, adds, answer}

@@ -1,10 +1,9 @@
 -- What stands on the board after a history.
-use Rattle.std.specs.Prelude.{◌≡◌, ℕ, zero, suc, ◌+◌, ◌-◌, ◌≤◌, nat_eq, nat_le, Bool, true, false, not, ◌&&◌, if◌then◌else◌, List, [], ◌∷◌, ◌++◌, drop, fold, length, is_some, slice_get, slice_set, Option, Some, None, IfSome}
+use Rattle.std.specs.Prelude.{◌≡◌, ℕ, zero, suc, ◌+◌, ◌-◌, ◌≤◌, nat_eq, nat_le, Bool, true, false, not, ◌&&◌, if◌then◌else◌, List, [], ◌∷◌, ◌++◌, drop, fold, slice_get, slice_set, Option, Some, None, IsSome}
 use Rattle.std.specs.Cmp.Lexicographic.{pointwise}
 use Rattle.std.specs.Option.{option_and_then, option_map_or}
 use Rattle.variant.specs.End.{end_text}
 use Rattle.variant.specs.declared.message.Variant.{Variant}
-use Rattle.variant.specs.declared.source.Source.{Source}
 use Rattle.thread_board.specs.declared.entry.BoardEntry.{BoardEntry}
 use Rattle.thread_board.specs.declared.entry.BoardChange.{BoardChange}
 use Rattle.thread_board.specs.declared.entry.BoardChange.TheVariants.{Name, NewChannel, NewThread, Start, Begin, End, MainEnd}
@@ -93,6 +92,10 @@ running r = not_ended r.states
 -- the state of a Thread that was started and hasn't ended
 abbrev pub state_of : Register → ℕ → Option ℕ
 state_of r thread = option_and_then (λ made. made.runs) (numbered r.threads thread)
+
+-- a Thread that was made and of which no state runs, before state 0's end
+abbrev pub IsIdle : Register → ℕ → Type 0
+IsIdle r thread = (r.main_end ≡ None) × IsSome (numbered r.threads thread) × (state_of r thread ≡ None)
 
 -- the text of a failure that a change tells
 abbrev pub failure_of : BoardChange → Option (List ℕ)

@@ -1,11 +1,9 @@
 -- What a board keeps beside its history.
-use Rattle.std.specs.Prelude.{◌≡◌, ◌≢◌, ◌<◌, ℕ, suc, zero, ◌+◌, ◌*◌, ◌≤◌, List, [], ◌∷◌, length, map, Option, Some, None, All, if◌then◌else◌, nat_lt, ⊤}
+use Rattle.std.specs.Prelude.{◌≡◌, ◌≢◌, ◌<◌, ℕ, suc, ◌+◌, ◌*◌, ◌≤◌, List, [], ◌∷◌, length, map, Option, Some, None, All, if◌then◌else◌, nat_lt, ⊤}
 use Rattle.std.specs.Global.{Vec}
 use Rattle.variant.specs.declared.message.Variant.{Variant}
 use Rattle.thread_board.specs.declared.entry.BoardEntry.{BoardEntry}
 use Rattle.thread_board.specs.declared.job.Job.{Job}
-use Rattle.thread_board.specs.declared.place.Thread.{Thread}
-use Rattle.thread_board.specs.declared.place.Started.{Started}
 use Rattle.thread_board.specs.Register.{Register, register, running, state_of, jobs_of, numbered}
 use Rattle.thread_board.specs.Lawful.{IsLawful}
 use Rattle.thread_board.specs.Answers.{channel_limit, thread_limit, start_limit}

@@ -1,4 +1,4 @@
-ghost use Rattle.std.specs.Prelude.{◌≡◌};
+ghost use Rattle.std.specs.Prelude.{◌≡◌, ◌+◌, ◌<◌, ◌≤◌, ◌^◌, [], ◌∷◌, ◌++◌, length, vec_capacity};
 ghost use Rattle.std.specs.Option.{option_copied};
 
 use love_base::{List, Stamp, Text};
@@ -71,4 +71,16 @@ impl BoardChange {
             _ => None,
         }
     }
+}
+
+// Adds an entry for which there is room, and gives its place, counted from 1.
+pub(crate) fn append(history: &mut Vec<BoardEntry>, entry: BoardEntry) -> u32
+    requires room { length history.old.items < vec_capacity history.old }
+    requires few { length history.old.items < 2 ^ 16 }
+    ensures items { history.new.items ≡ history.old.items ++ entry ∷ [] }
+    ensures place { result ≡ length history.old.items + 1 }
+    ensures capacity { vec_capacity history.old ≤ vec_capacity history.new }
+{
+    history.push(entry).unwrap();
+    history.len() as u32
 }

@@ -8,12 +8,15 @@ mod board;
 mod entry;
 mod fault;
 mod job;
+mod making;
 mod place;
+mod states;
 
-pub use board::{Board, Named};
+pub use board::Board;
 pub use entry::{BoardChange, BoardEntry};
 pub use fault::BoardFault;
 pub use job::Job;
+pub use making::Named;
 
 #[cfg(test)]
 mod tests;

@@ -13,10 +13,11 @@ use Rattle.turn_desk.specs.declared.view.Own.{Own}
 use Rattle.turn_desk.specs.declared.view.Phase.TheVariants.{Free, Taken}
 use Rattle.turn_desk.specs.declared.view.Spot.{Spot}
 use Rattle.turn_desk.specs.declared.view.View.{View}
-use Rattle.turn_desk.specs.View.{blank, spot, places, fronts_of, refused, published, freed, looked, opening}
+use Rattle.turn_desk.specs.View.{blank, spot, refused, taken, published, freed, looked, opening}
 use Rattle.love_base.specs.Prefix.{IsPrefix}
 use Rattle.love_base.proofs.Prefixes.{whole, further}
 use Rattle.turn_desk.specs.Steps.{Continues, HasTaken, TakesAfterRefusals}
+pub use Rattle.turn_desk.specs.Grew.{released_places}
 use Rattle.turn_desk.specs.Grew.{Grew, nothing, made_at, made_both}
 use Rattle.turn_desk.specs.Passes.{DeskId, Standing, IsPassOf, object_count}
 use Rattle.turn_desk.specs.Opening.{opening_pass, opening_passes}
@@ -27,7 +28,7 @@ use Rattle.turn_desk.proofs.Looks.{raised_spot}
 use Rattle.turn_desk.proofs.Settled.{some_at, or_at, map_or}
 use Rattle.turn_desk.proofs.Takes.{taken_spot}
 pub use Rattle.turn_desk.proofs.Views.{taken_is_busy, published_is_busy}
-use Rattle.turn_desk.proofs.Views.{at_spot, off_spot, blank_spot}
+use Rattle.turn_desk.proofs.Views.{at_spot, off_spot, blank_spot, takes_at_once}
 
 module _ {E : Type 0} where
   -- a take changes what is known of its own object alone
@@ -185,6 +186,12 @@ module _ {E : Type 0} where
         actions = (_, ap (λ (z : View E). z.actions) t.2);
       }
 
+  -- the same, where nothing was refused
+  pub took_grew : (summed : List E → ℕ) (between : List E → Bool) (v w : View E) (o : ℕ) (log : List E) → o < length v.spots → w ≡ taken o log v → Continues summed between v o log → Grew nothing v w
+  took_grew summed between v w o log lt e c =
+      let was : spot w o ≡ taken_spot o log v = ap (λ (z : View E). spot z o) e ∙ at_spot v o (taken_spot o log v) lt in
+      takes_grew summed between v w o log (takes_at_once v w o log e) (record { phase = ap (λ (z : Spot E). z.phase) was; known = ap (λ (z : Spot E). z.known) was; front = ap (λ (z : Spot E). z.front) was }) c
+
   -- a refused `try_hold`
   pub refused_grew : (v w : View E) (o found : ℕ) → w ≡ refused o found v → Grew nothing v w
   refused_grew v w o found e = let same = λ (p : ℕ). ap (λ (z : View E). spot z p) e in record {
@@ -216,10 +223,6 @@ module _ {E : Type 0} where
     looks = (_, ap (λ (z : View E). z.looks) e);
     actions = (_, ap (λ (z : View E). z.actions) e);
   }
-
-  -- the places that a release fills
-  abbrev pub released_places : ℕ → List E → View E → List Own
-  released_places o log v = places v.number o (fronts_of v) (length (spot v o).known) (length log - length (spot v o).known)
 
   -- a release
   pub released_grew : (w u : View E) (o : ℕ) (log : List E) → (spot w o).phase ≡ Taken → IsPrefix (spot w o).known log → (spot w o).front ≤ length log → u ≡ freed o (published o log w) → Grew (made_at o (released_places o log w)) w u

@@ -1,6 +1,7 @@
 ghost use Rattle.std.specs.Prelude.{◌≡◌, ◌*◌, ◌<◌, ◌≤◌, ◌^◌, true, IfOk, IfErr, length};
 ghost use Rattle.turn_desk.specs.declared.view.Phase.TheVariants.{Free, Taken};
 ghost use Rattle.love_base.specs.Prefix.{IsPrefix};
+ghost use Rattle.turn_desk.specs.Grew.{Grew, nothing, released_at};
 ghost use Rattle.turn_desk.specs.View.{spot, refused, published, freed};
 ghost use Rattle.turn_desk.specs.Steps.{Continues, HasTaken, IsOther, TakesAfterRefusals, took};
 ghost use Rattle.turn_desk.specs.Passes.{IsPassOf, fixed_at, object_count};
@@ -85,6 +86,7 @@ impl<O: Logged> Desk<O> {
         ensures own { pass.new.desk ≡ pass.old.desk }
         ensures was_member { IsPassOf self.now pass.old }
         ensures member { IsPassOf self.now pass.new }
+        ensures grew { Grew nothing pass.old.view pass.new.view }
         ensures object { IfOk result (λ h. h.object ≡ object) }
         ensures taken { IfOk result (λ h. TakesAfterRefusals
             pass.old.view object (O.history h.value) pass.new.view) }
@@ -125,6 +127,7 @@ impl<O: Logged> Desk<O> {
         ensures own { pass.new.desk ≡ pass.old.desk }
         ensures was_member { IsPassOf self.now pass.old }
         ensures member { IsPassOf self.now pass.new }
+        ensures grew { Grew nothing pass.old.view pass.new.view }
         ensures object { result.object ≡ object }
         ensures taken { TakesAfterRefusals
             pass.old.view object (O.history result.value) pass.new.view }
@@ -193,6 +196,9 @@ impl<O: Logged> Desk<O> {
         ensures own { pass.new.desk ≡ pass.old.desk }
         ensures was_member { IsPassOf self.now pass.old }
         ensures member { IsPassOf self.now pass.new }
+        ensures grew { Grew
+            (released_at held.object (O.history held.value) pass.old.view)
+            pass.old.view pass.new.view }
         ensures released { pass.new.view
             ≡ freed held.object (published held.object (O.history held.value) pass.old.view) }
         ensures front { (spot pass.old.view held.object).front ≤ length (O.history held.value) }

@@ -12,6 +12,7 @@ mod desk;
 mod fronts;
 mod held;
 mod kept;
+pub mod laws;
 mod logged;
 mod looking;
 mod opening;

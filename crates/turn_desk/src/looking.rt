@@ -1,5 +1,6 @@
 //! Looks: what one load of an object's tally word tells.
 ghost use Rattle.std.specs.Prelude.{◌≡◌, ◌<◌, ◌≤◌, ◌^◌};
+ghost use Rattle.turn_desk.specs.Grew.{Grew, nothing};
 ghost use Rattle.turn_desk.specs.View.{spot, looked};
 ghost use Rattle.turn_desk.specs.Steps.{IsTally};
 ghost use Rattle.turn_desk.specs.Passes.{IsPassOf, object_count};
@@ -28,6 +29,7 @@ impl<O: Logged> Desk<O> {
         ensures own { pass.new.desk ≡ pass.old.desk }
         ensures was_member { IsPassOf self.now pass.old }
         ensures member { IsPassOf self.now pass.new }
+        ensures grew { Grew nothing pass.old.view pass.new.view }
         ensures looked { pass.new.view
             ≡ looked object result.place result.summary pass.old.view }
         ensures tally { IsTally O.summed O.between

@@ -1,5 +1,5 @@
 use super::play;
-use crate::status::DONE;
+use crate::Ending;
 use channel_core::{Change, Entry};
 use std::test::Fail;
 use variant::Variant;
@@ -18,7 +18,7 @@ fn a_message_is_popped_once(rt: HostRuntime) -> Result<(), Fail> {
           print(love.thread.getChannel(\"x\"):pop())\n\
           print(love.thread.getChannel(\"x\"):pop())",
     )?;
-    assert_eq!(rt; report.status, DONE);
+    assert_eq!(rt; report.status, Ending::Done.code());
     assert_eq!(rt; sink.taken(), b"7\nnil\n".as_slice());
     assert_eq!(rt; report.channels.len(), 1);
     let channel = report.channels.get(0).ok_or("the Channel")?;
@@ -52,7 +52,7 @@ fn messages_come_in_order(rt: HostRuntime) -> Result<(), Fail> {
         source.push_str(format!(in rt.alloc(); "{POP}\n")?.as_str())?;
     }
     let (report, sink) = play(rt.alloc(), source.as_bytes())?;
-    assert_eq!(rt; report.status, DONE);
+    assert_eq!(rt; report.status, Ending::Done.code());
     assert_eq!(rt;
         sink.taken(),
         b"1\n2\n3\n4\n5\n6\n7\n8\n9\n10\neleven\n12\nnil\n".as_slice()
@@ -79,7 +79,7 @@ fn a_string_keeps_its_bytes(rt: HostRuntime) -> Result<(), Fail> {
     source.extend_from_slice(POP.as_bytes())?;
     let (report, sink) = play(rt.alloc(), source.as_slice())?;
     plain.push(b'\n')?;
-    assert_eq!(rt; report.status, DONE);
+    assert_eq!(rt; report.status, Ending::Done.code());
     assert_eq!(rt; sink.taken(), plain.as_slice());
     Ok(())
 }

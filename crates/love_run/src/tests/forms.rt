@@ -1,6 +1,5 @@
 use super::{folder, play, words};
-use crate::love;
-use crate::status::{DONE, NO_MAIN, OUT_OF_FORM, USAGE};
+use crate::{Ending, love};
 use love_base::MemSink;
 use std::test::Fail;
 
@@ -24,7 +23,7 @@ fn literals_are_printed(rt: HostRuntime) -> Result<(), Fail> {
     ];
     for (source, printed) in rows {
         let (report, sink) = play(rt.alloc(), source)?;
-        assert_eq!(rt; report.status, DONE);
+        assert_eq!(rt; report.status, Ending::Done.code());
         assert_eq!(rt; report.out.bytes(), printed);
         assert_eq!(rt; sink.taken(), printed);
     }
@@ -51,7 +50,7 @@ fn other_lines_are_refused(rt: HostRuntime) -> Result<(), Fail> {
     ];
     for source in rows {
         let (report, sink) = play(rt.alloc(), source)?;
-        assert_eq!(rt; report.status, OUT_OF_FORM);
+        assert_eq!(rt; report.status, Ending::OutOfForm.code());
         assert_eq!(rt; report.out.bytes(), b"".as_slice());
         assert_eq!(rt; report.channels.len(), 0);
         assert_eq!(rt; sink.taken(), b"".as_slice());
@@ -62,10 +61,10 @@ fn other_lines_are_refused(rt: HostRuntime) -> Result<(), Fail> {
 // The longest source, and one byte more.
 #[test]
 fn a_source_has_a_length_limit(rt: HostRuntime) -> Result<(), Fail> {
-    for (length, status) in [(1_048_576, DONE), (1_048_577, OUT_OF_FORM)] {
+    for (length, ending) in [(1_048_576, Ending::Done), (1_048_577, Ending::OutOfForm)] {
         let source = vec![in rt.alloc(); b'\n'; length]?;
         let (report, _) = play(rt.alloc(), source.as_slice())?;
-        assert_eq!(rt; report.status, status);
+        assert_eq!(rt; report.status, ending.code());
     }
     Ok(())
 }
@@ -73,22 +72,22 @@ fn a_source_has_a_length_limit(rt: HostRuntime) -> Result<(), Fail> {
 // Words that are no command line, and a folder without `main.lua`.
 #[test]
 fn other_words_are_refused(rt: HostRuntime) -> Result<(), Fail> {
-    let rows: [(&[&[u8]], &[u8], u8); 8] = [
-        (&[], b"main.lua", USAGE),
-        (&[b"game", b"more"], b"main.lua", USAGE),
-        (&[b""], b"main.lua", USAGE),
-        (&[b"-x"], b"main.lua", USAGE),
-        (&[b"--"], b"main.lua", USAGE),
-        (&[b"\xff"], b"main.lua", USAGE),
-        (&[b"-"], b"main.lua", DONE),
-        (&[b"game"], b"main.luac", NO_MAIN),
+    let rows: [(&[&[u8]], &[u8], Ending); 8] = [
+        (&[], b"main.lua", Ending::Usage),
+        (&[b"game", b"more"], b"main.lua", Ending::Usage),
+        (&[b""], b"main.lua", Ending::Usage),
+        (&[b"-x"], b"main.lua", Ending::Usage),
+        (&[b"--"], b"main.lua", Ending::Usage),
+        (&[b"\xff"], b"main.lua", Ending::Usage),
+        (&[b"-"], b"main.lua", Ending::Done),
+        (&[b"game"], b"main.luac", Ending::NoMain),
     ];
-    for (given, name, status) in rows {
+    for (given, name, ending) in rows {
         let words = words(rt.alloc(), given)?;
         let mut folder = folder(rt.alloc(), name, b"", &[])?;
         let mut sink = MemSink::new(rt.alloc(), 1, Vec::new(rt.alloc()));
         let report = love(rt.alloc(), words.as_slice(), &mut folder, &mut sink);
-        assert_eq!(rt; report.status, status);
+        assert_eq!(rt; report.status, ending.code());
     }
     Ok(())
 }

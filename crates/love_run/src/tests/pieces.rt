@@ -1,8 +1,7 @@
 ghost use Rattle.std.specs.Prelude.{Option};
 
 use super::{folder, words};
-use crate::love;
-use crate::status::DONE;
+use crate::{Ending, love};
 use love_base::{MemSink, Sink, SinkErr};
 use std::alloc::Global;
 use std::test::Fail;
@@ -55,7 +54,7 @@ fn pieces_have_4096_bytes(rt: HostRuntime) -> Result<(), Fail> {
             sizes: Vec::new(rt.alloc()),
         };
         let report = love(rt.alloc(), words.as_slice(), &mut folder, &mut sink);
-        assert_eq!(rt; report.status, DONE);
+        assert_eq!(rt; report.status, Ending::Done.code());
         assert_eq!(rt; sink.sizes.as_slice(), sizes);
     }
     Ok(())
@@ -69,7 +68,7 @@ fn every_byte_is_written(rt: HostRuntime) -> Result<(), Fail> {
     let mut folder = folder(rt.alloc(), b"main.lua", source.as_slice(), &[])?;
     let mut sink = MemSink::new(rt.alloc(), 1, Vec::new(rt.alloc()));
     let report = love(rt.alloc(), words.as_slice(), &mut folder, &mut sink);
-    assert_eq!(rt; report.status, DONE);
+    assert_eq!(rt; report.status, Ending::Done.code());
     assert_eq!(rt; sink.taken().len(), 10_000);
     assert_eq!(rt; sink.taken(), report.out.bytes());
     Ok(())

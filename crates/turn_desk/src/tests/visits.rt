@@ -1,5 +1,5 @@
 //! Seventeen threads that look and take turns at eight objects.
-ghost use Rattle.std.specs.Prelude.{◌≡◌, ◌<◌, All, IfOk, length, vec_len};
+ghost use Rattle.std.specs.Prelude.{◌≡◌, ◌<◌, All, IfOk, vec_len};
 ghost use Rattle.turn_desk.specs.Passes.{object_count};
 ghost use Rattle.turn_desk.specs.Closing.{AreNumbered, IsReady};
 

@@ -1,5 +1,4 @@
 use Rattle.std.proofs.Common.{ap, arith, length-drop}
-use Rattle.variant.specs.declared.message.Variant.{Variant}
 use Rattle.channel_core.specs.History.{sent, received, sent_messages}
 use Rattle.channel_core.proofs.Histories.{length-sent_messages}
 use Rattle.channel_core.proofs.Lawfulness.{HasMessages-lawful, received-le-sent}

@@ -1,4 +1,4 @@
-use Rattle.std.proofs.Common.{◌+◌, ◌<◌, ◌≡◌, ◌++◌, ◌∷◌, [], ap, ◌∙◌, arith, length, vec_capacity}
+use Rattle.std.proofs.Common.{◌+◌, ◌<◌, arith, length, vec_capacity}
 use Rattle.std.proofs.lemmas.Grind.{common_steps}
 use Rattle.channel_core.specs.Lawful.{entry_limit}
 use Rattle.channel_core.proofs.Lawfulness.{room_below}

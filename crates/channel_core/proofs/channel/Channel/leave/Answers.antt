@@ -1,4 +1,4 @@
-use Rattle.std.proofs.Common.{◌≡◌, ◌≢◌, Some, None, ap, ◌∙◌, arith, length}
+use Rattle.std.proofs.Common.{◌≡◌, ◌≢◌, Some, None}
 use Rattle.channel_core.specs.History.{holder}
 use Rattle.channel_core.proofs.Lawfulness.{length-lawful}
 use Rattle.channel_core.proofs.Indexes.{IsIndexed-leave}

@@ -1,7 +1,5 @@
-use Rattle.std.proofs.Common.{◌≡◌, ap, sym, ◌∙◌, slice_get, Some, None}
+use Rattle.std.proofs.Common.{◌≡◌, ap, ◌∙◌, slice_get, Some, None}
 use Rattle.std.specs.Option.{option_copied}
-use Rattle.variant.specs.declared.ask.Ask.TheVariants.{Peek}
-use Rattle.variant.specs.declared.action.Deed.TheVariants.{Asked}
 use Rattle.channel_core.specs.History.{front}
 use Rattle.channel_core.specs.Index.{message_at}
 use Rattle.channel_core.proofs.Indexes.{front-past, front-found}

@@ -1,9 +1,9 @@
-use Rattle.std.proofs.Common.{◌≡◌, ◌≢◌, ◌+◌, ◌<◌, [], ap, sym, refl, ◌∙◌, arith, length, vec_capacity}
+use Rattle.std.proofs.Common.{◌≢◌, ◌+◌, ◌<◌, [], ap, sym, refl, ◌∙◌, arith, length, vec_capacity}
 use Rattle.std.proofs.lemmas.Grind.{common_steps}
 use Rattle.std.specs.Option.{option_copied}
 use Rattle.channel_core.specs.History.{received, queue}
 use Rattle.channel_core.specs.Lawful.{entry_limit}
-use Rattle.channel_core.proofs.Histories.{front-none, front-waits, front-message, sent-le-length, waits-lt}
+use Rattle.channel_core.proofs.Histories.{front-none, front-waits, sent-le-length, waits-lt}
 use Rattle.channel_core.proofs.Lawfulness.{room_below}
 use Rattle.channel_core.proofs.Indexes.{IsIndexed-take}
 use Rattle.channel_core.proofs.channel.Channel.take.Goals as goal

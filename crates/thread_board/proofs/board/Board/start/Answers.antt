@@ -1,13 +1,10 @@
-use Rattle.std.proofs.Common.{◌+◌, ◌<◌, ◌≤◌, ◌≡◌, ℕ, ap, sym, refl, subst, ◌∙◌, Some, None, List, [], ◌∷◌, drop, true, false, arith, length, length-append, vec_capacity, option_to_list}
+use Rattle.std.proofs.Common.{◌≤◌, ◌≡◌, ap, sym, subst, ◌∙◌, Some, None, arith, length-append, vec_capacity}
 use Rattle.std.proofs.lemmas.Grind.{common_steps}
-use Rattle.thread_board.specs.declared.place.Started.{Started}
 use Rattle.thread_board.specs.View.{BoardView}
-use Rattle.thread_board.specs.Register.{Register, register, HasBegun, is_working, numbered, channel_of, change_thread}
-use Rattle.thread_board.specs.Sound.{owed, MayStart, kept_names}
+use Rattle.thread_board.specs.Register.{Register, register, change_thread}
+use Rattle.thread_board.specs.Sound.{owed, MayStart}
 use Rattle.thread_board.specs.Lawful.{IsLater}
-use Rattle.thread_board.specs.Answers.{channel_limit, thread_limit}
-use Rattle.thread_board.proofs.Registering.{kept_names-insert, channel_of-kept, numbered-within, numbered-read, not_ended-numbered}
-use Rattle.thread_board.proofs.Soundness.{IsSound-name, IsSound-new_channel, IsSound-new_thread, IsSound-start_as, IsSound-begin, IsSound-end, IsSound-main_end, working-kept, count-working, thread-may_start, state-may_start, working}
+use Rattle.thread_board.proofs.Soundness.{IsSound-start_as, thread-may_start, state-may_start}
 use Rattle.thread_board.proofs.board.Board.start.Goals as goal
 
 pub set_thread-requires : goal.set_thread-requires
@@ -43,3 +40,8 @@ returns-in-Err-clause-already c = λ state.
 
 pub returns-in-Err-clause-answer : goal.returns-in-Err-clause-answer
 returns-in-Err-clause-answer c = c.in-Err.ensures.refused c.args.by.state
+
+pub returns-in-Err-clause-many_running : goal.returns-in-Err-clause-many_running
+returns-in-Err-clause-many_running c = λ count.
+    let says = c.in-Err.ensures.many_running count in
+    (λ e. says.0 (cc), λ busy. let same = says.1 busy in cc)

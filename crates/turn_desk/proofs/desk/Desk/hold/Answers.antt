@@ -1,4 +1,5 @@
 use Rattle.std.proofs.Common.{refl, ◌∙◌}
+use Rattle.turn_desk.proofs.Callers.{takes_grew}
 use Rattle.turn_desk.proofs.Views.{continues_noted, member_noted, noted_none, noted_more, takes_more}
 use Rattle.turn_desk.proofs.desk.Desk.hold.Goals as goal
 
@@ -17,3 +18,6 @@ returns-in-Ok-clause-seen g c = let l = g.O.Logged in continues_noted l.summed l
 
 pub returns-in-Ok-clause-was_member : goal.returns-in-Ok-clause-was_member
 returns-in-Ok-clause-was_member g c = member_noted _ _ _ _ c.loop.invariant.0 c.loop.invariant.1 c.in-Ok.ensures.was_member
+
+pub returns-in-Ok-clause-grew : goal.returns-in-Ok-clause-grew
+returns-in-Ok-clause-grew g c = let l = g.O.Logged in takes_grew l.summed l.between c.args.pass.now.view c.try_hold.new.pass.view c.args.object _ (returns-in-Ok-clause-taken g c) c.in-Ok.ensures.kept (returns-in-Ok-clause-seen g c)

@@ -1,6 +1,7 @@
 use Rattle.std.proofs.Common.{rules, ◌+◌, ◌/◌, ◌%◌, set, sym, refl, subst, ap, ◌∙◌, arith}
 use Rattle.turn_desk.specs.Steps.{IsTally}
 use Rattle.turn_desk.specs.View.{spot, looked}
+use Rattle.turn_desk.proofs.Callers.{looked_grew}
 use Rattle.turn_desk.proofs.Keeping.{keeps_looked, keeps_same, keeps_member, desk_kept}
 use Rattle.turn_desk.proofs.Looks.{can_look, parted}
 use Rattle.turn_desk.proofs.desk.Desk.look.Goals as goal
@@ -38,3 +39,6 @@ returns-clause-member g c = keeps_member _ _ _ _ _ _ _ _ (invariant_of-pass g c)
 
 pub returns-clause-was_member : goal.returns-clause-was_member
 returns-clause-was_member g c = keeps_member _ _ _ _ _ _ _ _ c.pass.invariant c.pass.view_is c.requires.own
+
+pub returns-clause-grew : goal.returns-clause-grew
+returns-clause-grew g c = looked_grew _ _ c.args.object _ _ (returns-clause-front g c) (returns-clause-looked g c)

@@ -2,9 +2,12 @@ use Rattle.std.proofs.Common.{rules, ◌≡◌, ◌≢◌, ◌<◌, ◌+◌, ◌
 use Rattle.atomic_table.specs.Table.{rest}
 use Rattle.turn_desk.specs.declared.view.Phase.TheVariants.{Free, Taken}
 use Rattle.turn_desk.specs.View.{spot, published, freed}
+use Rattle.turn_desk.specs.Grew.{Grew, released_at}
+use Rattle.turn_desk.proofs.Callers.{released_grew}
 use Rattle.turn_desk.proofs.Gives.{can_give, published_spot}
 use Rattle.turn_desk.proofs.Keeping.{desk_kept, keeps_released, keeps_same, keeps_member}
 use Rattle.turn_desk.proofs.Rows.{turned_to, turned_back, left_over, first_of}
+use Rattle.love_base.specs.Prefix.{IsPrefix}
 use Rattle.turn_desk.proofs.Views.{at_spot, published_is_busy}
 use Rattle.turn_desk.proofs.desk.Desk.release.Goals as goal
 
@@ -56,3 +59,10 @@ returns-clause-member g c = keeps_member _ _ _ _ _ _ _ _ (invariant_of-pass g c)
 
 pub returns-clause-was_member : goal.returns-clause-was_member
 returns-clause-was_member g c = keeps_member _ _ _ _ _ _ _ _ c.pass.invariant c.pass.view_is c.requires.own
+
+pub returns-clause-grew : goal.returns-clause-grew
+returns-clause-grew g c = let l = g.O.Logged in let o = c.args.held.object in let log = l.history c.args.held.value in let old = c.pass.inside.seat.me.0 in let is = ap (λ p. p.view) c.pass.view_is in
+    let now = ap (λ m. m.0) c.exchange.ensures.3 ∙ (c.turn_by.ensures.same.2 ∙ ap (λ m. m.0) c.publish.ensures.published) in
+    let view = c.turn_by-2.ensures.same.2 ∙ (ap (λ m. m.0) (c.swap.ensures.2 o c.turn_word-word.ensures) ∙ ap (freed o) now) in
+    let busy : (spot old o).phase ≡ Taken = search rules in let grown = subst (λ v. IsPrefix (spot v o).known log) (sym is) c.requires.grown in
+    subst (λ v. Grew (released_at o log v) v c.turn_by-2.new.seat.me.0) is (released_grew old c.turn_by-2.new.seat.me.0 o log busy grown c.publish.ensures.front view)

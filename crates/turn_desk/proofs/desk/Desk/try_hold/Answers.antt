@@ -1,7 +1,9 @@
-use Rattle.std.proofs.Common.{rules, set, [], ◌<◌, ◌≡◌, ◌∷◌, ◌++◌, Some, None, sym, refl, ap, ◌∙◌, length}
+use Rattle.std.proofs.Common.{rules, subst, set, [], ◌<◌, ◌≡◌, ◌∷◌, ◌++◌, Some, None, sym, refl, ap, ◌∙◌, length}
 use Rattle.atomic_table.specs.Table.{turned, rest}
 use Rattle.turn_desk.specs.declared.view.Phase.TheVariants.{Free}
 use Rattle.turn_desk.specs.View.{spot}
+use Rattle.turn_desk.specs.Grew.{Grew, nothing}
+use Rattle.turn_desk.proofs.Callers.{took_grew, refused_grew}
 use Rattle.turn_desk.proofs.Keeping.{desk_kept, keeps_taken, keeps_refused, keeps_same, keeps_member}
 use Rattle.turn_desk.proofs.Rows.{first_of, read_first}
 use Rattle.turn_desk.proofs.desk.Desk.try_hold.Goals as goal
@@ -37,3 +39,14 @@ returns-then-found-ne0-clause-was_member g c = keeps_member _ _ _ _ _ _ _ _ c.pa
 
 pub returns-clause-was_member : goal.returns-clause-was_member
 returns-clause-was_member g c = keeps_member _ _ _ _ _ _ _ _ c.pass.invariant c.pass.view_is c.requires.own
+
+pub returns-clause-grew : goal.returns-clause-grew
+returns-clause-grew g c = let l = g.O.Logged in let o = c.args.object in let old = c.pass.inside.seat.me in
+    let got = c.take-found.ensures.took.0 c.if-found-ne0.false in let swapped = c.exchange.ensures in
+    let me = c.turn.ensures.2 ∙ (ap (λ m. (m.0, turned m.1)) swapped.3 ∙ ap (λ m. (m.0, rest m.1 ++ (o, None) ∷ [])) got.1) in
+    let inside : o < length old.0.spots = search rules in
+    subst (λ v. Grew nothing v c.turn.new.self.me.0) (ap (λ p. p.view) c.pass.view_is) (took_grew l.summed l.between old.0 c.turn.new.self.me.0 o (l.history got.0) inside (ap (λ m. m.0) me) got.2.continues)
+
+pub returns-then-found-ne0-clause-grew : goal.returns-then-found-ne0-clause-grew
+returns-then-found-ne0-clause-grew g c = let missed = c.take-found.ensures.took.1 c.if-found-ne0.true in
+    subst (λ v. Grew nothing v c.take-found.new.seat.me.0) (ap (λ p. p.view) c.pass.view_is) (refused_grew c.pass.inside.seat.me.0 c.take-found.new.seat.me.0 c.args.object c.take-found.result (ap (λ m. m.0) missed.0))
