@@ -122,19 +122,48 @@ fn put(log: &mut StateLog, number: u32, deed: Deed)
     });
 }
 
-#[test]
-fn a_log_of_one_state(rt: HostRuntime) -> Result<(), Fail> {
-    let mut log = StateLog::new(rt.alloc());
-    assert!(rt; log.is_empty());
+// A log of one asked action.
+fn asked_log(alloc: Global) -> Result<StateLog, Memory> {
+    let mut log = StateLog::new(alloc);
     log.room(2)?;
     put(&mut log, 1, Deed::Asked(Ask::NewChannel));
-    assert_eq!(rt; log.len(), 1);
-    assert_eq!(rt; log.get(0).map(|action| action.number), Some(1));
-    assert!(rt; log.get(1).is_none() && log.get(usize::MAX).is_none());
-    let mut log = StateLog::new(rt.alloc());
+    Ok(log)
+}
+
+// A log of the first action, for which no room was taken.
+fn begun_log(alloc: Global) -> StateLog {
+    let mut log = StateLog::new(alloc);
     put(&mut log, 1, Deed::Begin);
-    assert_eq!(rt; log.get(0).map(|action| action.number), Some(1));
+    log
+}
+
+fn number_at(log: &StateLog, at: usize) -> Option<u32> {
+    Some(log.get(at)?.number)
+}
+
+// Whether the log tells one action, the one of number 1.
+fn holds_one(log: &StateLog) -> bool {
+    log.len() == 1
+        && !log.is_empty()
+        && number_at(log, 0) == Some(1)
+        && number_at(log, 1).is_none()
+        && number_at(log, usize::MAX).is_none()
+}
+
+#[test]
+fn a_new_log_is_empty(rt: HostRuntime) {
+    assert!(rt; StateLog::new(rt.alloc()).is_empty());
+}
+
+#[test]
+fn a_log_holds_what_was_asked(rt: HostRuntime) -> Result<(), Fail> {
+    assert!(rt; holds_one(&asked_log(rt.alloc())?));
     Ok(())
+}
+
+#[test]
+fn a_log_holds_the_first_action(rt: HostRuntime) {
+    assert!(rt; holds_one(&begun_log(rt.alloc())));
 }
 
 #[test]
