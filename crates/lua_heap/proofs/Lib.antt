@@ -1,0 +1,5 @@
+pub mod Positions
+pub mod TextsLemmas
+pub mod NativeLemmas
+pub mod ValueLemmas
+pub mod HeapLemmas
