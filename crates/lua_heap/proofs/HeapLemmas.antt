@@ -1,24 +1,28 @@
 -- What a heap keeps when it makes or changes something, and what its store is then.
-use Rattle.std.proofs.Common.{◌≡◌, ℕ, zero, suc, ◌+◌, ◌<◌, ◌≤◌, List, [], ◌∷◌, ◌++◌, length, map, set, get_or, Option, None, Some, refl, sym, ap, subst, ◌∙◌, slice_get, append_assoc, arith, IfSome}
+use Rattle.std.proofs.Common.{◌≡◌, ℕ, zero, suc, ◌+◌, ◌<◌, ◌≤◌, List, [], ◌∷◌, ◌++◌, length, map, set, get_or, Bool, true, false, cond, Option, None, Some, refl, sym, ap, subst, ◌∙◌, slice_get, append_assoc, arith, IfSome}
 use Rattle.std.specs.Prelude.{unwrap_or}
 use Rattle.std.specs.Option.{option_map}
 use Rattle.lua_meaning.specs.Value as meant
 use Rattle.std.specs.List.{AllByRecursion}
 use Rattle.std.proofs.lemmas.Option.{none-some, same_Some, slice_get-map, slice_get_read}
-use Rattle.std.proofs.lemmas.List.{length-append, length-set, map-append, map-set, append-nil}
+use Rattle.std.proofs.lemmas.List.{length-append, length-set, map-append, map-set, append-nil, set-get_or}
 use Rattle.love_base.specs.Data.{Contents}
 use Rattle.love_base.specs.Prefix.{IsPrefix}
-use Rattle.lua_table.specs.Table.{Places}
+use Rattle.std.specs.Bool.{Decides}
+use Rattle.lua_table.specs.Table.{Places, get, has_place, clear_key, set as set_key}
 use Rattle.lua_tree.specs.Tree.{Bytes}
-use Rattle.lua_meaning.specs.Store.{Store, Closure, Table, table_at, set_table, set_cell, set_meta, no_table}
+use Rattle.lua_meaning.specs.Store.{Store, Closure, Table, table_at, raw_get, raw_set, with_value, set_table, set_cell, set_meta, no_table}
 use Rattle.lua_heap.specs.declared.entries.Function.{Function}
 use Rattle.lua_heap.specs.declared.entries.TableEntry.{TableEntry}
 use Rattle.lua_heap.specs.declared.value.Value.{Value}
+use Rattle.lua_heap.specs.declared.value.Value.TheVariants.{Nil, Bool as Flag, Num, Str, Table as TableValue, Func, Native, Channel, Thread, Data}
 use Rattle.lua_heap.specs.Texts.{AreOnce}
+use Rattle.lua_heap.specs.Alike.{value_eq, alike, alike_same}
+use Rattle.lua_heap.specs.Raw.{is_nil, with_raw}
 use Rattle.lua_heap.specs.Value.{value_view, places_view, Counts, IsCounted, AreCounted}
 use Rattle.lua_heap.specs.Heap.{HeapView, table_view, store_of, Becomes, counts, IsMade, IsMadeTable, AreMadeCells, IsMadeEntry, IsHeap, Extends}
 use Rattle.lua_heap.proofs.Positions.{slice_get-append_left}
-use Rattle.lua_heap.proofs.ValueLemmas.{Fewer, IsCounted-more, AreCounted-more, places_view-longer, values_view-longer}
+use Rattle.lua_heap.proofs.ValueLemmas.{Fewer, IsCounted-more, AreCounted-more, value_view-longer, places_view-longer, values_view-longer, get-view, get-counted, has_place-view, set-view, clear_key-view, set-counted, clear_key-counted}
 
 -- ---- what holds of all items
 
@@ -270,15 +274,161 @@ Extends-tables h g tables same more =
       contents = ([], sym (append-nil h.contents));
     })
 
-prefix-trans : {X : Type 0} {a b c : List X} → IsPrefix a b → IsPrefix b c → IsPrefix a c
-prefix-trans {X} {a} p q = (p.0 ++ q.0, q.1 ∙ ap (λ xs. xs ++ q.0) p.1 ∙ append_assoc a p.0 q.0)
+prefix-trans : {X : Type 0} (a b c : List X) → IsPrefix a b → IsPrefix b c → IsPrefix a c
+prefix-trans a b c p q = (p.0 ++ q.0, q.1 ∙ ap (λ xs. xs ++ q.0) p.1 ∙ append_assoc a p.0 q.0)
 
-pub Extends-trans : {f g h : HeapView} → Extends f g → Extends g h → Extends f h
-Extends-trans p q =
+pub Extends-trans : (f g h : HeapView) → Extends f g → Extends g h → Extends f h
+Extends-trans f g h p q =
     record {
-      texts = prefix-trans p.texts q.texts;
+      texts = prefix-trans f.texts g.texts h.texts p.texts q.texts;
       tables = let a = p.tables in let b = q.tables in omega arith;
       cells = let a = p.cells in let b = q.cells in omega arith;
-      functions = prefix-trans p.functions q.functions;
-      contents = prefix-trans p.contents q.contents;
+      functions = prefix-trans f.functions g.functions h.functions p.functions q.functions;
+      contents = prefix-trans f.contents g.contents h.contents p.contents q.contents;
     }
+
+pub AreMadeCells-same : (h g : HeapView) (cells given : List ℕ) → h ≡ g → cells ≡ given → AreMadeCells g given → AreMadeCells h cells
+AreMadeCells-same h g cells given same is made =
+    let P : HeapView → Type 0 = λ k. AreMadeCells k given in
+    let Q : List ℕ → Type 0 = λ ids. AreMadeCells h ids in
+    subst Q (sym is) (subst P (sym same) made)
+
+-- ---- a heap later on
+
+fewer-counts : (h k : HeapView) → Extends h k → Fewer (counts h) (counts k)
+fewer-counts h k more =
+    record {
+      texts = prefix-length h.texts k.texts more.texts;
+      tables = more.tables;
+      functions = prefix-length h.functions k.functions more.functions;
+      contents = prefix-length h.contents k.contents more.contents;
+    }
+  where
+    prefix-length : {X : Type 0} (part whole : List X) → IsPrefix part whole → length part ≤ length whole
+    prefix-length part whole p = let size : length whole ≡ length part + length p.0 = ap length p.1 ∙ length-append part p.0 in omega arith
+
+-- a value that a heap made is made and the same text later on
+pub IsMade-later : (h k : HeapView) → Extends h k → (v : Value) → IsMade h v → IsMade k v
+IsMade-later h k more v made = IsCounted-more (fewer-counts h k more) v made
+
+pub value_view-later : (h k : HeapView) → Extends h k → (v : Value) → IsMade h v → value_view k.texts v ≡ value_view h.texts v
+value_view-later h k more v made =
+    ap (λ ts. value_view ts v) more.texts.1 ∙ value_view-longer h.texts more.texts.0 (counts h) refl v made
+
+-- ---- reading and setting a key
+
+decides : (a b : Value) → Decides (value_eq a b) (a ≡ b)
+decides a b = (alike a b, λ e. let P : Value → Type 0 = λ v. value_eq a v ≡ true in subst P e (alike_same a))
+
+pub raw_get-view : (h g : HeapView) → IsHeap h → h ≡ g → (i j : ℕ) → i ≡ j → (entry : TableEntry) → slice_get h.tables i ≡ Some entry → (key : Value) → IsMade g key
+    → (found : Option Value) → get value_eq entry.table key ≡ found → (closure : Function → Closure)
+    → value_view g.texts (unwrap_or found Nil) ≡ raw_get (store_of closure g) j (value_view g.texts key)
+raw_get-view h g is same i j at entry there key made found gives closure =
+    let K : HeapView → Type 0 = λ k. IsMade k key in
+    let own : IsMade h key = subst K (sym same) made in
+    let all = (all-at (IsMadeEntry (counts h)) h.tables i entry is.tables there).0 in
+    let P : HeapView → Type 0 = λ k. value_view k.texts (unwrap_or found Nil) ≡ raw_get (store_of closure k) j (value_view k.texts key) in
+    let Q : ℕ → Type 0 = λ n. value_view h.texts (unwrap_or found Nil) ≡ raw_get (store_of closure h) n (value_view h.texts key) in
+    subst P same (subst Q at (
+    view found
+    ∙ ap (λ o. unwrap_or (option_map (value_view h.texts) o) meant.nil) (sym gives)
+    ∙ ap (λ o. unwrap_or o meant.nil) (get-view h.texts is.once (counts h) refl value_eq decides entry.table key all own)
+    ∙ ap (λ (t : Table). unwrap_or (get meant.same t.places (value_view h.texts key)) meant.nil) (sym (table_at-view closure h i entry there))))
+  where
+    view : (o : Option Value) → value_view h.texts (unwrap_or o Nil) ≡ unwrap_or (option_map (value_view h.texts) o) meant.nil
+    view None = refl
+    view (Some v) = refl
+
+pub raw_get-made : (h g : HeapView) → IsHeap h → h ≡ g → (i : ℕ) (entry : TableEntry) → slice_get h.tables i ≡ Some entry → (key : Value)
+    → (found : Option Value) → get value_eq entry.table key ≡ found → IsMade g (unwrap_or found Nil)
+raw_get-made h g is same i entry there key found gives =
+    let all = (all-at (IsMadeEntry (counts h)) h.tables i entry is.tables there).0 in
+    let P : Option Value → Type 0 = λ o. IfSome o (λ v. IsCounted (counts h) v) in
+    let Q : HeapView → Type 0 = λ k. IsMade k (unwrap_or found Nil) in
+    subst Q same (by found (subst P gives (get-counted (counts h) value_eq entry.table key all)))
+  where
+    by : (o : Option Value) → IfSome o (λ v. IsCounted (counts h) v) → IsMade h (unwrap_or o Nil)
+    by None made = tt
+    by (Some v) made = made
+
+is_nil-view : (texts : List Bytes) (v : Value) → is_nil v ≡ meant.is_nil (value_view texts v)
+is_nil-view texts Nil = refl
+is_nil-view texts (Flag b) = refl
+is_nil-view texts (Num n) = refl
+is_nil-view texts (Str id) = refl
+is_nil-view texts (TableValue id) = refl
+is_nil-view texts (Func id) = refl
+is_nil-view texts (Native f) = refl
+is_nil-view texts (Channel n) = refl
+is_nil-view texts (Thread n) = refl
+is_nil-view texts (Data id) = refl
+
+with_raw-view : (h : HeapView) → IsHeap h → (places : Places Value Value) (key value : Value) → AreCounted (counts h) places → IsMade h key
+    → places_view h.texts (with_raw places key value) ≡ with_value (places_view h.texts places) (value_view h.texts key) (value_view h.texts value)
+with_raw-view h is places key value all own =
+    by (is_nil value) (clear_key value_eq places key) (set_key value_eq places key value)
+    (clear_key meant.same (places_view h.texts places) (value_view h.texts key)) (set_key meant.same (places_view h.texts places) (value_view h.texts key) (value_view h.texts value))
+    (clear_key-view h.texts is.once (counts h) refl value_eq decides places key all own) (set-view h.texts is.once (counts h) refl value_eq decides places key value all own)
+    ∙ ap (λ b. cond b (clear_key meant.same (places_view h.texts places) (value_view h.texts key)) (set_key meant.same (places_view h.texts places) (value_view h.texts key) (value_view h.texts value))) (is_nil-view h.texts value)
+  where
+    by : (b : Bool) (p q : Places Value Value) (r s : Places meant.Value meant.Value) → places_view h.texts p ≡ r → places_view h.texts q ≡ s → places_view h.texts (cond b p q) ≡ cond b r s
+    by true p q r s e f = e
+    by false p q r s e f = f
+
+with_raw-counted : (c : Counts) (places : Places Value Value) (key value : Value) → AreCounted c places → IsCounted c key → IsCounted c value → AreCounted c (with_raw places key value)
+with_raw-counted c places key value all own given =
+    by (is_nil value) (clear_key value_eq places key) (set_key value_eq places key value) (clear_key-counted c value_eq places key all) (set-counted c value_eq places key value all own given)
+  where
+    by : (b : Bool) (p q : Places Value Value) → AreCounted c p → AreCounted c q → AreCounted c (cond b p q)
+    by true p q e f = e
+    by false p q e f = f
+
+module _ (h g : HeapView) (is : IsHeap h) (same : h ≡ g) (i j : ℕ) (at : i ≡ j) (entry : TableEntry) (there : slice_get h.tables i ≡ Some entry)
+    (key value : Value) (key_made : IsMade g key) (table : Places Value Value) where
+  pub IsHeap-set_raw : IsMade g value → table ≡ with_raw entry.table key value
+      → IsHeap (record { texts = h.texts; tables = set h.tables i (record { table = table; meta = entry.meta }); cells = h.cells; functions = h.functions; contents = h.contents })
+  IsHeap-set_raw value_made gives =
+      let K : HeapView → Type 0 = λ k. IsMade k key in
+      let V : HeapView → Type 0 = λ k. IsMade k value in
+      let made = all-at (IsMadeEntry (counts h)) h.tables i entry is.tables there in
+      let P : Places Value Value → Type 0 = λ ps. AreCounted (counts h) ps in
+      IsHeap-set_entry h is i (record { table = table; meta = entry.meta })
+      (subst P (sym gives) (with_raw-counted (counts h) entry.table key value made.0 (subst K (sym same) key_made) (subst V (sym same) value_made)), made.1)
+
+  pub Becomes-set_raw : table ≡ with_raw entry.table key value
+      → Becomes g (record { texts = h.texts; tables = set h.tables i (record { table = table; meta = entry.meta }); cells = h.cells; functions = h.functions; contents = h.contents })
+        (λ closure s. raw_set s j (value_view g.texts key) (value_view g.texts value))
+  Becomes-set_raw gives =
+      let K : HeapView → Type 0 = λ k. IsMade k key in
+      let made = all-at (IsMadeEntry (counts h)) h.tables i entry is.tables there in
+      Becomes-set_entry h g i j (record { table = table; meta = entry.meta }) (λ closure s. raw_set s j (value_view g.texts key) (value_view g.texts value)) same at (λ closure.
+      let s = store_of closure h in
+      let View : Places meant.Value meant.Value → Store = λ ps. set_table s i (record { places = ps; meta = entry.meta }) in
+      let Of : Table → Store = λ t. set_table s i (record { places = with_value t.places (value_view h.texts key) (value_view h.texts value); meta = t.meta }) in
+      ap View (ap (λ ps. places_view h.texts ps) gives ∙ with_raw-view h is entry.table key value made.0 (subst K (sym same) key_made))
+      ∙ ap Of (sym (table_at-view closure h i entry there))
+      ∙ ap (λ n. raw_set s n (value_view h.texts key) (value_view h.texts value)) at
+      ∙ ap (λ (k : HeapView). raw_set s j (value_view k.texts key) (value_view k.texts value)) same)
+
+  pub has_place-raw : (closure : Function → Closure) → has_place meant.same (table_at (store_of closure g) j).places (value_view g.texts key) ≡ true → has_place value_eq entry.table key ≡ true
+  has_place-raw closure e =
+      let K : HeapView → Type 0 = λ k. IsMade k key in
+      let made = all-at (IsMadeEntry (counts h)) h.tables i entry is.tables there in
+      has_place-view h.texts is.once (counts h) refl value_eq decides entry.table key made.0 (subst K (sym same) key_made)
+      ∙ ap (λ (t : Table). has_place meant.same t.places (value_view h.texts key)) (sym (table_at-view closure h i entry there))
+      ∙ ap (λ n. has_place meant.same (table_at (store_of closure h) n).places (value_view h.texts key)) at
+      ∙ ap (λ (k : HeapView). has_place meant.same (table_at (store_of closure k) j).places (value_view k.texts key)) same
+      ∙ e
+
+-- an entry that is put back as it was
+pub same_tables : (tables : List TableEntry) (i : ℕ) (entry : TableEntry) (table : Places Value Value) → entry ≡ get_or tables i entry → table ≡ entry.table
+    → set tables i (record { table = table; meta = entry.meta }) ≡ tables
+same_tables tables i entry table is put_back =
+    let Of : Places Value Value → List TableEntry = λ t. set tables i (record { table = t; meta = entry.meta }) in
+    ap Of put_back ∙ ap (λ e. set tables i e) is ∙ set-get_or tables i entry
+
+-- a field's value is set where the table, its name and the value are what they are called
+pub put_store : (s before after : Store) (t u : ℕ) (key name value given : meant.Value) → after ≡ raw_set before t key value → before ≡ s → t ≡ u → key ≡ name → value ≡ given
+    → after ≡ raw_set s u name given
+put_store s before after t u key name value given is was at named same =
+    is ∙ ap (λ x. raw_set x t key value) was ∙ ap (λ n. raw_set s n key value) at ∙ ap (λ k. raw_set s u k value) named ∙ ap (λ v. raw_set s u name v) same

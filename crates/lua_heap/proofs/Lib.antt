@@ -3,3 +3,4 @@ pub mod TextsLemmas
 pub mod NativeLemmas
 pub mod ValueLemmas
 pub mod HeapLemmas
+pub mod IndexLemmas

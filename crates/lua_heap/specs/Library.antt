@@ -22,25 +22,33 @@ with_functions t (f ∷ fs) s = with_functions t fs (raw_set s t (str (name f)) 
 abbrev pub with_table : ℕ → Bytes → ℕ → Store → Store
 with_table t key other s = raw_set s t (str key) (table other)
 
+-- a text as a field of a table
+abbrev pub with_text : ℕ → Bytes → Bytes → Store → Store
+with_text t key text s = raw_set s t (str key) (str text)
+
 abbrev pub with_globals : Store → Store
 with_globals s =
     with_table globals_place (codes "love") love_place
     (with_table globals_place (codes "math") math_place
     (with_table globals_place (codes "table") table_place
     (with_table globals_place (codes "string") string_place
-    (raw_set (with_table globals_place (codes "_G") globals_place
-    (with_functions globals_place (on_shelf globals) s)) globals_place (str (codes "_VERSION")) (str (codes "Lua 5.1"))))))
+    (with_text globals_place (codes "_VERSION") (codes "Lua 5.1")
+    (with_table globals_place (codes "_G") globals_place
+    (with_functions globals_place (on_shelf globals) s))))))
+
+abbrev pub with_library : Store → Store
+with_library s =
+    with_table text_meta_place (codes "__index") string_place
+    (with_functions math_place (on_shelf math_table)
+    (with_functions table_place (on_shelf table_table)
+    (with_functions string_place (on_shelf string_table) s)))
 
 abbrev pub with_modules : Store → Store
 with_modules s =
-    with_table text_meta_place (codes "__index") string_place
-    (with_functions love_event_place (on_shelf love_event)
+    with_functions love_event_place (on_shelf love_event)
     (with_functions love_filesystem_place (on_shelf love_filesystem)
     (with_functions love_data_place (on_shelf love_data)
     (with_functions love_thread_place (on_shelf love_thread)
     (with_table love_place (codes "filesystem") love_filesystem_place
     (with_table love_place (codes "data") love_data_place
-    (with_table love_place (codes "thread") love_thread_place
-    (with_functions math_place (on_shelf math_table)
-    (with_functions table_place (on_shelf table_table)
-    (with_functions string_place (on_shelf string_table) s))))))))))
+    (with_table love_place (codes "thread") love_thread_place s))))))

@@ -1,14 +1,14 @@
 //! The library: the tables that each state has from its start.
 
-ghost use Rattle.std.specs.Prelude.{◌≡◌, ◌<◌, ◌≤◌, length, map, replicate, IfOk, OnOk};
+ghost use Rattle.std.specs.Prelude.{◌≡◌, ◌<◌, map, replicate, IfOk, OnOk};
 ghost use Rattle.lua_heap.specs.declared.entries.Function.{Function as Made};
 ghost use Rattle.lua_meaning.specs.Value.{str};
 ghost use Rattle.lua_meaning.specs.Store.{Closure, raw_set};
 ghost use Rattle.lua_meaning.specs.Run.{first_store};
 ghost use Rattle.lua_heap.specs.Native.{native_view};
 ghost use Rattle.lua_heap.specs.Value.{value_view};
-ghost use Rattle.lua_heap.specs.Heap.{store_of, IsMade, Extends};
-ghost use Rattle.lua_heap.specs.Library.{with_functions, with_globals, with_modules, empty_store, empty_entry};
+ghost use Rattle.lua_heap.specs.Heap.{store_of, IsMade};
+ghost use Rattle.lua_heap.specs.Library.{with_functions, with_table, with_text, with_globals, with_library, with_modules, empty_store, empty_entry};
 
 use crate::entries::TableEntry;
 use crate::texts::Texts;
@@ -128,6 +128,7 @@ impl Heap {
     {
         let mut heap = Heap::empty(alloc)?;
         heap.fill_globals()?;
+        heap.fill_library()?;
         heap.fill_modules()?;
         Ok(heap)
     }
@@ -152,67 +153,92 @@ impl Heap {
 
     // Fills the table of the global names.
     fn fill_globals(&mut self) -> Result<(), Memory>
-        requires tables { 10 ≤ length self.old.tables }
-        ensures store { OnOk result ((closure : Made → Closure) →
+        ensures { OnOk result ((closure : Made → Closure) →
             store_of closure self.new ≡ with_globals (store_of closure self.old)) }
-        ensures extends { Extends self.old self.new }
     {
-        self.set_functions(GLOBALS, &GLOBAL_FUNCTIONS)?;
-        self.set_field(GLOBALS, b"_G", Value::Table(TableId::at(GLOBALS)))?;
-        let version = self.intern(b"Lua 5.1")?;
-        self.set_field(GLOBALS, b"_VERSION", Value::Str(version))?;
-        self.set_field(GLOBALS, b"string", Value::Table(TableId::at(STRING)))?;
-        self.set_field(GLOBALS, b"table", Value::Table(TableId::at(TABLE)))?;
-        self.set_field(GLOBALS, b"math", Value::Table(TableId::at(MATH)))?;
-        self.set_field(GLOBALS, b"love", Value::Table(TableId::at(LOVE)))
+        self.put_functions(GLOBALS, &GLOBAL_FUNCTIONS)?;
+        self.put_table(GLOBALS, b"_G", GLOBALS)?;
+        self.put_text(GLOBALS, b"_VERSION", b"Lua 5.1")?;
+        self.put_table(GLOBALS, b"string", STRING)?;
+        self.put_table(GLOBALS, b"table", TABLE)?;
+        self.put_table(GLOBALS, b"math", MATH)?;
+        self.put_table(GLOBALS, b"love", LOVE)?;
+        Ok(())
     }
 
-    // Fills the other tables.
-    fn fill_modules(&mut self) -> Result<(), Memory>
-        requires tables { 10 ≤ length self.old.tables }
-        ensures store { OnOk result ((closure : Made → Closure) →
-            store_of closure self.new ≡ with_modules (store_of closure self.old)) }
-        ensures extends { Extends self.old self.new }
+    // Fills the tables of Lua's library.
+    fn fill_library(&mut self) -> Result<(), Memory>
+        ensures { OnOk result ((closure : Made → Closure) →
+            store_of closure self.new ≡ with_library (store_of closure self.old)) }
     {
-        self.set_functions(STRING, &STRING_FUNCTIONS)?;
-        self.set_functions(TABLE, &TABLE_FUNCTIONS)?;
-        self.set_functions(MATH, &MATH_FUNCTIONS)?;
-        self.set_field(LOVE, b"thread", Value::Table(TableId::at(LOVE_THREAD)))?;
-        self.set_field(LOVE, b"data", Value::Table(TableId::at(LOVE_DATA)))?;
-        self.set_field(LOVE, b"filesystem", Value::Table(TableId::at(LOVE_FILESYSTEM)))?;
-        self.set_functions(LOVE_THREAD, &THREAD_FUNCTIONS)?;
-        self.set_functions(LOVE_DATA, &DATA_FUNCTIONS)?;
-        self.set_functions(LOVE_FILESYSTEM, &FILESYSTEM_FUNCTIONS)?;
-        self.set_functions(LOVE_EVENT, &EVENT_FUNCTIONS)?;
-        self.set_field(TEXT_META, b"__index", Value::Table(TableId::at(STRING)))
+        self.put_functions(STRING, &STRING_FUNCTIONS)?;
+        self.put_functions(TABLE, &TABLE_FUNCTIONS)?;
+        self.put_functions(MATH, &MATH_FUNCTIONS)?;
+        self.put_table(TEXT_META, b"__index", STRING)?;
+        Ok(())
+    }
+
+    // Fills the tables of LÖVE's modules.
+    fn fill_modules(&mut self) -> Result<(), Memory>
+        ensures { OnOk result ((closure : Made → Closure) →
+            store_of closure self.new ≡ with_modules (store_of closure self.old)) }
+    {
+        self.put_table(LOVE, b"thread", LOVE_THREAD)?;
+        self.put_table(LOVE, b"data", LOVE_DATA)?;
+        self.put_table(LOVE, b"filesystem", LOVE_FILESYSTEM)?;
+        self.put_functions(LOVE_THREAD, &THREAD_FUNCTIONS)?;
+        self.put_functions(LOVE_DATA, &DATA_FUNCTIONS)?;
+        self.put_functions(LOVE_FILESYSTEM, &FILESYSTEM_FUNCTIONS)?;
+        self.put_functions(LOVE_EVENT, &EVENT_FUNCTIONS)?;
+        Ok(())
     }
 
     // Functions become fields of a table by their names.
-    fn set_functions(&mut self, table: usize, functions: &[Native]) -> Result<(), Memory>
-        requires table { table < length self.old.tables }
-        ensures store { OnOk result ((closure : Made → Closure) →
-            store_of closure self.new
+    fn put_functions(&mut self, table: usize, functions: &[Native]) -> Result<(), Memory>
+        requires { table < 10 }
+        ensures { OnOk result ((closure : Made → Closure) → store_of closure self.new
             ≡ with_functions table (map native_view functions.now) (store_of closure self.old)) }
-        ensures extends { Extends self.old self.new }
     {
         for function in functions {
-            self.set_field(table, function.name(), Value::Native(*function))?;
+            self.put(table, function.name(), Value::Native(*function))?;
         }
         Ok(())
     }
 
+    // A table becomes a field of another one.
+    fn put_table(&mut self, table: usize, name: &[u8], other: usize) -> Result<(), Memory>
+        requires table { table < 10 }
+        requires other { other < 10 }
+        ensures { OnOk result ((closure : Made → Closure) → store_of closure self.new
+            ≡ with_table table name.now other (store_of closure self.old)) }
+    {
+        let _tables = &self.tables;
+        self.put(table, name, Value::Table(TableId::at(other)))
+    }
+
+    // A text becomes a field of a table.
+    fn put_text(&mut self, table: usize, name: &[u8], text: &[u8]) -> Result<(), Memory>
+        requires { table < 10 }
+        ensures { OnOk result ((closure : Made → Closure) → store_of closure self.new
+            ≡ with_text table name.now text.now (store_of closure self.old)) }
+    {
+        let value = Value::Str(self.intern(text)?);
+        self.put(table, name, value)?;
+        Ok(())
+    }
+
     // A table's field gets a value.
-    fn set_field(&mut self, table: usize, name: &[u8], value: Value) -> Result<(), Memory>
-        requires table { table < length self.old.tables }
+    fn put(&mut self, table: usize, name: &[u8], value: Value) -> Result<(), Memory>
+        requires table { table < 10 }
         requires value { IsMade self.old value }
-        ensures store { OnOk result ((closure : Made → Closure) →
-            store_of closure self.new
+        ensures { OnOk result ((closure : Made → Closure) → store_of closure self.new
             ≡ raw_set (store_of closure self.old) table (str name.now)
                 (value_view self.old.texts value)) }
-        ensures extends { Extends self.old self.new }
     {
         let key = Value::Str(self.intern(name)?);
-        self.set_raw(TableId::at(table), key, value)
+        let _tables = &self.tables;
+        self.set_raw(TableId::at(table), key, value)?;
+        Ok(())
     }
 }
 
@@ -221,7 +247,7 @@ fn empty_tables(alloc: Global) -> Result<Vec<TableEntry>, Memory>
     ensures { IfOk result (λ tables. tables.items ≡ replicate 10 empty_entry) }
 {
     let mut tables = Vec::new(alloc);
-    while tables.len() < TABLE_COUNT {
+    for count in 0..TABLE_COUNT {
         let table = Table::new(alloc);
         tables.push(TableEntry { table, meta: None })?;
     }

@@ -43,7 +43,8 @@ impl Heap {
             ≡ raw_get (store_of closure self.now) id (value_view self.now.texts key) }
         ensures made { IsMade self.now result }
     {
-        match self.tables[id.place()].table.get(&key) {
+        let entry = &self.tables[id.place()];
+        match entry.table.get(&key) {
             Some(value) => *value,
             None => Value::Nil,
         }
@@ -71,7 +72,9 @@ impl Heap {
             → IsOk result }
         ensures extends { Extends self.old self.new }
     {
-        put(&mut self.tables[id.place()].table, key, value)
+        let entry = &mut self.tables[id.place()];
+        put(&mut entry.table, key, value)?;
+        Ok(())
     }
 
     /// The metatable of a value: a table has its own or none, all strings have one (Lua 5.1 manual
@@ -83,6 +86,8 @@ impl Heap {
             result ≡ metatable (store_of closure self.now) (value_view self.now.texts value) }
         ensures made { IsMadeTable self.now result }
     {
+        // The metatable of strings is one of the first tables.
+        let _tables = &self.tables;
         match value {
             Value::Table(id) => self.meta(id),
             Value::Str(_) => Some(TableId::at(TEXT_META)),

@@ -11,10 +11,7 @@ abbrev pub invariant-loop-left : goal.invariant-loop-left
 invariant-loop-left l =
     record {
       same : (closure : Function → Closure) →
-          setting (store_of closure l.self) (value_view l.self.texts l.base) (value_view l.self.texts l.key)
+          setting (store_of closure l.self) (value_view l.self.texts l.fn.base) (value_view l.self.texts l.key)
           ≡ setting_within l.left (store_of closure l.self) (value_view l.self.texts l.key) (value_view l.self.texts l.at);
       made : IsMade l.self l.at;
     }
-
-abbrev pub measure-loop-left : goal.measure-loop-left
-measure-loop-left l = l.left
