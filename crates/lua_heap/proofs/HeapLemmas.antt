@@ -1,17 +1,18 @@
 -- What a heap keeps when it makes or changes something, and what its store is then.
-use Rattle.std.proofs.Common.{◌≡◌, ℕ, zero, suc, ◌+◌, ◌<◌, ◌≤◌, List, [], ◌∷◌, ◌++◌, length, map, set, get_or, Bool, true, false, cond, Option, None, Some, refl, sym, ap, subst, ◌∙◌, slice_get, append_assoc, arith, IfSome}
-use Rattle.std.specs.Prelude.{unwrap_or}
-use Rattle.std.specs.Option.{option_map}
+use Rattle.std.proofs.Common.{◌≡◌, ℕ, zero, suc, ◌+◌, ◌<◌, ◌≤◌, List, [], ◌∷◌, ◌++◌, length, map, set, get_or, Bool, true, false, cond, is_some, Option, None, Some, refl, sym, ap, subst, ◌∙◌, slice_get, append_assoc, arith, IfSome}
+use Rattle.std.specs.Prelude.{unwrap_or, nat_le, pos}
+use Rattle.std.specs.Option.{option_map, option_and_then}
+use Rattle.lua_heap.specs.Position.{value_at}
 use Rattle.lua_meaning.specs.Value as meant
 use Rattle.std.specs.List.{AllByRecursion}
 use Rattle.std.proofs.lemmas.Option.{none-some, same_Some, slice_get-map, slice_get_read}
-use Rattle.std.proofs.lemmas.List.{length-append, length-set, map-append, map-set, append-nil, set-get_or}
+use Rattle.std.proofs.lemmas.List.{length-append, length-set, map-append, map-set, append-nil, set-get_or, length-map}
 use Rattle.love_base.specs.Data.{Contents}
 use Rattle.love_base.specs.Prefix.{IsPrefix}
 use Rattle.std.specs.Bool.{Decides}
-use Rattle.lua_table.specs.Table.{Places, get, has_place, clear_key, set as set_key}
+use Rattle.lua_table.specs.Table.{Places, get, has_place, clear_key, set as set_key, value_at as at_position_value, run_length, border as least_border}
 use Rattle.lua_tree.specs.Tree.{Bytes}
-use Rattle.lua_meaning.specs.Store.{Store, Closure, Table, table_at, raw_get, raw_set, with_value, set_table, set_cell, set_meta, no_table}
+use Rattle.lua_meaning.specs.Store.{Store, Closure, Table, table_at, raw_get, raw_set, with_value, position, border, set_table, set_cell, set_meta, no_table}
 use Rattle.lua_heap.specs.declared.entries.Function.{Function}
 use Rattle.lua_heap.specs.declared.entries.TableEntry.{TableEntry}
 use Rattle.lua_heap.specs.declared.value.Value.{Value}
@@ -19,10 +20,10 @@ use Rattle.lua_heap.specs.declared.value.Value.TheVariants.{Nil, Bool as Flag, N
 use Rattle.lua_heap.specs.Texts.{AreOnce}
 use Rattle.lua_heap.specs.Alike.{value_eq, alike, alike_same}
 use Rattle.lua_heap.specs.Raw.{is_nil, with_raw}
-use Rattle.lua_heap.specs.Value.{value_view, places_view, Counts, IsCounted, AreCounted}
+use Rattle.lua_heap.specs.Value.{value_view, place_view, places_view, Counts, IsCounted, AreCounted}
 use Rattle.lua_heap.specs.Heap.{HeapView, table_view, store_of, Becomes, counts, IsMade, IsMadeTable, AreMadeCells, IsMadeEntry, IsHeap, Extends}
 use Rattle.lua_heap.proofs.Positions.{slice_get-append_left}
-use Rattle.lua_heap.proofs.ValueLemmas.{Fewer, IsCounted-more, AreCounted-more, value_view-longer, places_view-longer, values_view-longer, get-view, get-counted, has_place-view, set-view, clear_key-view, set-counted, clear_key-counted}
+use Rattle.lua_heap.proofs.ValueLemmas.{Fewer, IsCounted-more, AreCounted-more, value_view-longer, places_view-longer, values_view-longer, eq-view, get-view, get-counted, has_place-view, set-view, clear_key-view, set-counted, clear_key-counted}
 
 -- ---- what holds of all items
 
@@ -320,6 +321,14 @@ value_view-later h k more v made =
 decides : (a b : Value) → Decides (value_eq a b) (a ≡ b)
 decides a b = (alike a b, λ e. let P : Value → Type 0 = λ v. value_eq a v ≡ true in subst P e (alike_same a))
 
+-- values that `==` calls equal are those that the definitions call the same
+pub is_same-view : (h g : HeapView) → IsHeap h → h ≡ g → (a b : Value) → IsMade g a → IsMade g b → value_eq a b ≡ meant.same (value_view g.texts a) (value_view g.texts b)
+is_same-view h g is same a b a_made b_made =
+    let A : HeapView → Type 0 = λ k. IsMade k a in
+    let B : HeapView → Type 0 = λ k. IsMade k b in
+    let P : HeapView → Type 0 = λ k. value_eq a b ≡ meant.same (value_view k.texts a) (value_view k.texts b) in
+    subst P same (eq-view h.texts is.once (counts h) refl value_eq decides a b (subst A (sym same) a_made) (subst B (sym same) b_made))
+
 pub raw_get-view : (h g : HeapView) → IsHeap h → h ≡ g → (i j : ℕ) → i ≡ j → (entry : TableEntry) → slice_get h.tables i ≡ Some entry → (key : Value) → IsMade g key
     → (found : Option Value) → get value_eq entry.table key ≡ found → (closure : Function → Closure)
     → value_view g.texts (unwrap_or found Nil) ≡ raw_get (store_of closure g) j (value_view g.texts key)
@@ -426,6 +435,53 @@ pub same_tables : (tables : List TableEntry) (i : ℕ) (entry : TableEntry) (tab
 same_tables tables i entry table is put_back =
     let Of : Places Value Value → List TableEntry = λ t. set tables i (record { table = t; meta = entry.meta }) in
     ap Of put_back ∙ ap (λ e. set tables i e) is ∙ set-get_or tables i entry
+
+-- ---- the border
+
+at-view : (texts : List Bytes) (n : ℕ) → option_map (value_view texts) (value_at n) ≡ position n
+at-view texts zero = refl
+at-view texts (suc n) = by (nat_le (suc n) 99999999999999)
+  where
+    by : (b : Bool) → option_map (value_view texts) (cond b (Some (Num (pos (suc n)))) None) ≡ cond b (Some (meant.num (pos (suc n)))) None
+    by true = refl
+    by false = refl
+
+at-counted : (c : Counts) (n : ℕ) → IfSome (value_at n) (λ v. IsCounted c v)
+at-counted c zero = tt
+at-counted c (suc n) = by (nat_le (suc n) 99999999999999)
+  where
+    by : (b : Bool) → IfSome (cond b (Some (Num (pos (suc n)))) None) (λ v. IsCounted c v)
+    by true = tt
+    by false = tt
+
+module _ (h : HeapView) (is : IsHeap h) (places : Places Value Value) (all : AreCounted (counts h) places) where
+  has-view : (n : ℕ) → is_some (at_position_value value_eq value_at places n) ≡ is_some (at_position_value meant.same position (places_view h.texts places) n)
+  has-view n = by (value_at n) (at-counted (counts h) n) ∙ ap (λ key. is_some (option_and_then (get meant.same (places_view h.texts places)) key)) (at-view h.texts n)
+    where
+      same_some : (o : Option Value) → is_some o ≡ is_some (option_map (value_view h.texts) o)
+      same_some None = refl
+      same_some (Some v) = refl
+      by : (key : Option Value) → IfSome key (λ v. IsCounted (counts h) v)
+          → is_some (option_and_then (get value_eq places) key) ≡ is_some (option_and_then (get meant.same (places_view h.texts places)) (option_map (value_view h.texts) key))
+      by None made = refl
+      by (Some key) made = same_some (get value_eq places key) ∙ ap is_some (get-view h.texts is.once (counts h) refl value_eq decides places key all made)
+
+  run-view : (n among : ℕ) → run_length value_eq value_at places n among ≡ run_length meant.same position (places_view h.texts places) n among
+  run-view n zero = refl
+  run-view n (suc among) =
+      ap (λ b. cond b (suc (run_length value_eq value_at places (suc n) among)) 0) (has-view n)
+      ∙ ap (λ m. cond (is_some (at_position_value meant.same position (places_view h.texts places) n)) (suc m) 0) (run-view (suc n) among)
+
+  border-places : least_border value_eq value_at places ≡ least_border meant.same position (places_view h.texts places)
+  border-places = run-view 1 (length places) ∙ ap (λ n. run_length meant.same position (places_view h.texts places) 1 n) (sym (length-map places (λ p. place_view h.texts p)))
+
+pub border-view : (h g : HeapView) → IsHeap h → h ≡ g → (i j : ℕ) → i ≡ j → (entry : TableEntry) → slice_get h.tables i ≡ Some entry → (closure : Function → Closure)
+    → least_border value_eq value_at entry.table ≡ border (store_of closure g) j
+border-view h g is same i j at entry there closure =
+    let all = (all-at (IsMadeEntry (counts h)) h.tables i entry is.tables there).0 in
+    border-places h is entry.table all
+    ∙ ap (λ (t : Table). least_border meant.same position t.places) (sym (table_at-view closure h i entry there))
+    ∙ ap (λ n. border (store_of closure h) n) at ∙ ap (λ k. border (store_of closure k) j) same
 
 -- a field's value is set where the table, its name and the value are what they are called
 pub put_store : (s before after : Store) (t u : ℕ) (key name value given : meant.Value) → after ≡ raw_set before t key value → before ≡ s → t ≡ u → key ≡ name → value ≡ given

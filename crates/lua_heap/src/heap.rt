@@ -1,11 +1,12 @@
 //! The heap: what it has made, and how each is read and changed.
 
-ghost use Rattle.std.specs.Prelude.{◌≡◌, ℕ, ◌<◌, length, slice_get, Some, IfOk, IfSome, OnOk, OnErr, IsOk};
+ghost use Rattle.std.specs.Prelude.{◌≡◌, ℕ, ◌<◌, ◌↔◌, length, slice_get, Some, IfOk, OnOk, OnErr, IsTrue};
 ghost use Rattle.lua_heap.specs.declared.entries.Function.{Function as Made};
-ghost use Rattle.lua_meaning.specs.Store.{Closure, Store, add_table, add_cell, add_closure, add_contents, set_cell, set_meta, table_at, cell_value, contents_at, globals_place};
+ghost use Rattle.lua_meaning.specs.Value.{same};
+ghost use Rattle.lua_meaning.specs.Store.{Closure, add_table, add_cell, add_closure, add_contents, set_cell, set_meta, table_at, cell_value, contents_at, globals_place};
 ghost use Rattle.lua_heap.specs.Texts.{interned};
 ghost use Rattle.lua_heap.specs.Value.{value_view, places_view, AreCounted};
-ghost use Rattle.lua_heap.specs.Heap.{HeapView, store_of, function_at, Becomes, IsMade, IsMadeTable, AreMadeCells, Extends, counts};
+ghost use Rattle.lua_heap.specs.Heap.{store_of, function_at, Becomes, IsMade, IsMadeTable, AreMadeCells, Extends, counts};
 
 use crate::entries::{Function, TableEntry};
 use crate::texts::Texts;
@@ -62,6 +63,7 @@ impl Heap {
     /// [`Memory`] where there is no room for a new text. The heap is then as it was.
     pub fn intern(&mut self, bytes: &[u8]) -> Result<StrId, Memory>
         ensures id { IfOk result (λ id. slice_get self.new.texts id ≡ Some bytes.now) }
+        ensures made { IfOk result (λ id. id < length self.new.texts) }
         ensures one_id { IfOk result (λ id. (other : ℕ)
             → slice_get self.new.texts other ≡ Some bytes.now → other ≡ id) }
         ensures texts { OnOk result (self.new.texts ≡ interned self.old.texts bytes.now) }
@@ -80,6 +82,7 @@ impl Heap {
     /// [`Memory`] where there is no room for it. The heap is then as it was.
     pub fn new_table(&mut self) -> Result<TableId, Memory>
         ensures id { IfOk result (λ id. id ≡ length self.old.tables) }
+        ensures made { IfOk result (λ id. id < length self.new.tables) }
         ensures store { OnOk result (Becomes self.old self.new (λ closure s. add_table s)) }
         ensures refused { OnErr result (self.new ≡ self.old) }
         ensures extends { Extends self.old self.new }
@@ -98,6 +101,7 @@ impl Heap {
     pub fn new_cell(&mut self, value: Value) -> Result<CellId, Memory>
         requires made { IsMade self.old value }
         ensures id { IfOk result (λ id. id ≡ length self.old.cells) }
+        ensures made { IfOk result (λ id. id < length self.new.cells) }
         ensures store { OnOk result (Becomes self.old self.new
             (λ closure s. add_cell s (value_view self.old.texts value))) }
         ensures refused { OnErr result (self.new ≡ self.old) }
@@ -117,6 +121,7 @@ impl Heap {
     pub fn new_func(&mut self, code: u32, proto: u32, cells: &[CellId]) -> Result<FuncId, Memory>
         requires made { AreMadeCells self.old cells.now }
         ensures id { IfOk result (λ id. id ≡ length self.old.functions) }
+        ensures made { IfOk result (λ id. id < length self.new.functions) }
         ensures store { OnOk result (Becomes self.old self.new (λ closure s.
             add_closure s (closure (record { code = code; proto = proto; cells = cells.now })))) }
         ensures refused { OnErr result (self.new ≡ self.old) }
@@ -135,6 +140,7 @@ impl Heap {
     /// [`Memory`] where there is no room for it. The heap is then as it was.
     pub fn add_data(&mut self, content: Data) -> Result<DataId, Memory>
         ensures id { IfOk result (λ id. id ≡ length self.old.contents) }
+        ensures made { IfOk result (λ id. id < length self.new.contents) }
         ensures store { OnOk result (Becomes self.old self.new
             (λ closure s. add_contents s content)) }
         ensures refused { OnErr result (self.new ≡ self.old) }
@@ -149,6 +155,33 @@ impl Heap {
 // ---- what is read. None of these calls takes memory
 
 impl Heap {
+    /// Whether a value has no id or one that the heap gave, as far as that can be told: an id is its
+    /// place. Each other call asks this of the values that it's given.
+    #[inline]
+    pub fn is_made(&self, value: Value) -> bool
+        ensures { IsTrue result ↔ IsMade self.now value }
+    {
+        match value {
+            Value::Str(id) => id.place() < self.texts.len(),
+            Value::Table(id) => id.place() < self.tables.len(),
+            Value::Func(id) => id.place() < self.functions.len(),
+            Value::Data(id) => id.place() < self.contents.len(),
+            _ => true,
+        }
+    }
+
+    /// Whether two values of the heap are the same one (Lua 5.1 manual §2.5.2), which no metamethod is
+    /// asked for.
+    #[inline]
+    pub fn is_same(&self, a: Value, b: Value) -> bool
+        requires a { IsMade self.now a }
+        requires b { IsMade self.now b }
+        ensures { result ≡ same (value_view self.now.texts a) (value_view self.now.texts b) }
+    {
+        let _texts = &self.texts;
+        a == b
+    }
+
     /// The text of an id, in constant time.
     pub fn string(&self, id: StrId) -> &[u8]
         requires made { id < length self.now.texts }
@@ -182,7 +215,8 @@ impl Heap {
         ensures place { result ≡ globals_place }
         ensures made { result < length self.now.tables }
     {
-        let _ = &self.alloc;
+        // It is one of the first tables.
+        let _tables = &self.tables;
         TableId::at(0)
     }
 

@@ -9,6 +9,8 @@ mod library;
 mod methods;
 mod native;
 mod raw;
+#[cfg(test)]
+mod tests;
 mod texts;
 mod value;
 

@@ -4,7 +4,7 @@ ghost use Rattle.std.specs.Prelude.{◌≡◌, ◌<◌, ◌≢◌, length, OnOk,
 ghost use Rattle.lua_table.specs.Table.{has_place};
 ghost use Rattle.lua_heap.specs.declared.entries.Function.{Function as Made};
 ghost use Rattle.lua_meaning.specs.Value.{str, same};
-ghost use Rattle.lua_meaning.specs.Store.{Closure, raw_get, raw_set, table_at, metatable, handler};
+ghost use Rattle.lua_meaning.specs.Store.{Closure, raw_get, raw_set, table_at, border, metatable, handler};
 ghost use Rattle.lua_heap.specs.Alike.{value_eq};
 ghost use Rattle.lua_heap.specs.Raw.{with_raw};
 ghost use Rattle.lua_heap.specs.Value.{value_view, text_at};
@@ -75,6 +75,16 @@ impl Heap {
         let entry = &mut self.tables[id.place()];
         put(&mut entry.table, key, value)?;
         Ok(())
+    }
+
+    /// The least border of a table (Lua 5.1 manual §2.5.5). Takes no memory.
+    #[inline]
+    pub fn border(&self, id: TableId) -> u64
+        requires { id < length self.now.tables }
+        ensures { (closure : Made → Closure) → result ≡ border (store_of closure self.now) id }
+    {
+        let entry = &self.tables[id.place()];
+        entry.table.border()
     }
 
     /// The metatable of a value: a table has its own or none, all strings have one (Lua 5.1 manual

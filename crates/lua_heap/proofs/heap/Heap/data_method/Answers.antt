@@ -11,5 +11,5 @@ returns-in-Some-clause-method c = λ closure.
 
 pub returns-in-None-clause-method : goal.returns-in-None-clause-method
 returns-in-None-clause-method c = λ closure.
-    c.method.ensures.method
+    c.method-in-None.ensures.method
     ∙ ap (λ name. method_named (methods_of_data name) (value_view c.args.self.now.texts c.args.key)) (c.in-None.ensures ∙ ap (λ (d : Contents). d.name) (c.data_of.ensures.contents closure))

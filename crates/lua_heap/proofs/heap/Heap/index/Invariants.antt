@@ -15,3 +15,6 @@ invariant-loop-left l =
           ≡ lookup_within l.left (store_of closure l.self) (value_view l.self.texts l.key) (value_view l.self.texts l.at);
       made : IsMade l.self l.at;
     }
+
+abbrev pub decreases-loop-left : goal.decreases-loop-left
+decreases-loop-left l = l.left

@@ -17,6 +17,6 @@ returns-in_default-get_raw c =
     record {
       own = λ closure next.
           set_table c.args.self.now.texts (store_of closure c.args.self.now) c.args.base.now c.in-Table.id c.in-Table.is _ _ (c.get_raw.ensures.value closure)
-          (not_nil c.args.self.now.texts c.get_raw.result c.in_default.not-Nil) next;
+          (not_nil c.args.self.now.texts c.get_raw.result c.in_default-get_raw.not-Nil) next;
       made = subst P c.in-Table.is c.requires.base;
     }
