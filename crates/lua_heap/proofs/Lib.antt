@@ -4,3 +4,4 @@ pub mod NativeLemmas
 pub mod ValueLemmas
 pub mod HeapLemmas
 pub mod IndexLemmas
+pub mod Callers
