@@ -6,7 +6,7 @@ use Rattle.lua_heap.specs.Position.{value_at}
 use Rattle.lua_meaning.specs.Value as meant
 use Rattle.std.specs.List.{AllByRecursion}
 use Rattle.std.proofs.lemmas.Option.{none-some, same_Some, slice_get-map, slice_get_read}
-use Rattle.std.proofs.lemmas.List.{length-append, length-set, map-append, map-set, append-nil, set-get_or, length-map}
+use Rattle.std.proofs.lemmas.List.{length-append, length-set, map-set, append-nil, set-get_or, length-map}
 use Rattle.love_base.specs.Data.{Contents}
 use Rattle.love_base.specs.Prefix.{IsPrefix}
 use Rattle.std.specs.Bool.{Decides}
@@ -227,7 +227,7 @@ Becomes-set_entry h g i j entry change same at changes =
 
 pub Becomes-set_meta : (h g : HeapView) (i j : ℕ) (entry : TableEntry) (meta : Option ℕ) → h ≡ g → i ≡ j → slice_get h.tables i ≡ Some entry
     → Becomes g (record { texts = h.texts; tables = set h.tables i (record { table = entry.table; meta = meta }); cells = h.cells; functions = h.functions; contents = h.contents })
-      (λ closure s. set_meta s j meta)
+    (λ closure s. set_meta s j meta)
 Becomes-set_meta h g i j entry meta same at there =
     Becomes-set_entry h g i j (record { table = entry.table; meta = meta }) (λ closure s. set_meta s j meta) same at (λ closure.
     let Of : Table → Store = λ t. set_table (store_of closure h) i (record { places = t.places; meta = meta }) in
@@ -406,7 +406,7 @@ module _ (h g : HeapView) (is : IsHeap h) (same : h ≡ g) (i j : ℕ) (at : i �
 
   pub Becomes-set_raw : table ≡ with_raw entry.table key value
       → Becomes g (record { texts = h.texts; tables = set h.tables i (record { table = table; meta = entry.meta }); cells = h.cells; functions = h.functions; contents = h.contents })
-        (λ closure s. raw_set s j (value_view g.texts key) (value_view g.texts value))
+      (λ closure s. raw_set s j (value_view g.texts key) (value_view g.texts value))
   Becomes-set_raw gives =
       let K : HeapView → Type 0 = λ k. IsMade k key in
       let made = all-at (IsMadeEntry (counts h)) h.tables i entry is.tables there in
@@ -461,6 +461,7 @@ module _ (h : HeapView) (is : IsHeap h) (places : Places Value Value) (all : Are
       same_some : (o : Option Value) → is_some o ≡ is_some (option_map (value_view h.texts) o)
       same_some None = refl
       same_some (Some v) = refl
+
       by : (key : Option Value) → IfSome key (λ v. IsCounted (counts h) v)
           → is_some (option_and_then (get value_eq places) key) ≡ is_some (option_and_then (get meant.same (places_view h.texts places)) (option_map (value_view h.texts) key))
       by None made = refl

@@ -1,5 +1,5 @@
 -- Chains of handlers.
-use Rattle.std.proofs.Common.{◌≡◌, ℕ, suc, Bool, true, false, cond, refl, sym, ap, subst, ◌∙◌, List}
+use Rattle.std.proofs.Common.{◌≡◌, ℕ, suc, true, false, cond, refl, sym, ap, subst, ◌∙◌, List}
 use Rattle.std.specs.Prelude.{codes}
 use Rattle.lua_tree.specs.Tree.{Bytes}
 use Rattle.lua_meaning.specs.Value as meant

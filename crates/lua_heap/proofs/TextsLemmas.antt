@@ -1,12 +1,11 @@
 -- Texts at their places, and how they are found.
-use Rattle.std.proofs.Common.{map, ◌≡◌, ℕ, zero, suc, ◌+◌, ◌-◌, ◌<◌, ◌≤◌, Bool, true, false, cond, List, [], ◌∷◌, ◌++◌, length, take, drop, Option, None, Some, refl, sym, ap, subst, true≢false, ◌∙◌, slice_get, get_or, arith, ◌⊎◌, inl, inr, IsSome}
+use Rattle.std.proofs.Common.{◌≡◌, ℕ, zero, suc, ◌+◌, ◌-◌, ◌<◌, ◌≤◌, Bool, true, false, cond, List, [], ◌∷◌, ◌++◌, length, take, drop, Option, None, Some, refl, sym, ap, subst, true≢false, ◌∙◌, slice_get, get_or, arith, ◌⊎◌, inl, inr, IsSome}
 use Rattle.std.specs.List.{slice_range}
 use Rattle.std.specs.Prelude.{bytes_eq, nat_eq, ◌==◌}
-use Rattle.std.specs.Map.{lookup}
-use Rattle.std.proofs.lemmas.Option.{none-some, same_Some, slice_get_within, slice_get-map, slice_get-get_or}
+use Rattle.std.proofs.lemmas.Option.{none-some, same_Some, slice_get-get_or}
 use Rattle.std.proofs.lemmas.List.{take-append-le, drop-append-le, length-map, map-append, take_all, append-nil, length-append, length-drop}
 use Rattle.love_base.specs.Prefix.{IsPrefix}
-use Rattle.std.proofs.Math.Seq.{take-append_seam, drop-append_seam}
+use Rattle.std.proofs.Math.Seq.{drop-append_seam}
 use Rattle.std.proofs.lemmas.Bool.Decides.{Decides-eqb}
 use Rattle.std.proofs.lemmas.Slice.Eq.{bytes_eq-Decides}
 use Rattle.lua_tree.specs.Tree.{Bytes}
@@ -53,6 +52,7 @@ AreOnce-new texts text once absent = λ m n t em en. by m n t (slice_get-append_
   where
     Place : ℕ → Bytes → Type 0
     Place n t = (slice_get texts n ≡ Some t) ⊎ ((n ≡ length texts) × (text ≡ t))
+
     by : (m n : ℕ) (t : Bytes) → (slice_get texts m ≡ Some t) ⊎ ((m ≡ length texts) × (text ≡ t)) → (slice_get texts n ≡ Some t) ⊎ ((n ≡ length texts) × (text ≡ t)) → m ≡ n
     by m n t (inl em) (inl en) = once m n t em en
     by m n t (inl em) (inr en) = absurd (absent m (em ∙ ap (λ o. Some o) (sym en.1)))
@@ -110,16 +110,18 @@ lie-appended arena text spans lie k span there =
 pub AreFound-entered : (first : List (ℕ × ℕ)) (later : List ℕ) (texts : List Bytes) (first_then : List (ℕ × ℕ)) (later_then : List ℕ) (text : Bytes)
     → AreFound first later texts → IsEntered first later first_then later_then (text_hash text) (length texts) → AreFound first_then later_then (texts ++ text ∷ [])
 AreFound-entered first later texts first_then later_then text found (as_first none entered same) = record {
-      first_within = λ hash place e. within hash place (text_hash text == hash) refl (sym (entered hash) ∙ e);
-      later_within = λ k place e. more place (found.later_within k place (ap (λ l. slice_get l k) (sym same) ∙ e));
-      listed = λ place t e. listed place t (slice_get-append_by texts text place t e);
-    }
+  first_within = λ hash place e. within hash place (text_hash text == hash) refl (sym (entered hash) ∙ e);
+  later_within = λ k place e. more place (found.later_within k place (ap (λ l. slice_get l k) (sym same) ∙ e));
+  listed = λ place t e. listed place t (slice_get-append_by texts text place t e);
+}
   where
     more : (place : ℕ) → place < length texts → place < length (texts ++ text ∷ [])
     more place h = let longer = length-append texts (text ∷ []) in omega (arith, longer)
+
     within : (hash place : ℕ) (b : Bool) → (text_hash text == hash) ≡ b → cond b (Some (length texts)) (first_of first hash) ≡ Some place → place < length (texts ++ text ∷ [])
     within hash place true t e = let longer = length-append texts (text ∷ []) in let same_place = same_Some (length texts) place e in omega (arith, longer)
     within hash place false t e = more place (found.first_within hash place e)
+
     -- a hash that had a place still has it
     kept : (hash : ℕ) (b : Bool) → (text_hash text == hash) ≡ b → IsSome (first_of first hash) → first_of first_then hash ≡ first_of first hash
     kept hash true t some =
@@ -128,6 +130,7 @@ AreFound-entered first later texts first_then later_then text found (as_first no
         let bad : IsSome {T = ℕ} None = subst P (ap (λ h. first_of first h) (sym same_hash) ∙ none) some in
         absurd (true≢false (sym bad))
     kept hash false t some = entered hash ∙ ap (λ b. cond b (Some (length texts)) (first_of first hash)) t
+
     before : (place hash : ℕ) → IsListed first later hash place → IsListed first_then later_then hash place
     before place hash (inl e) =
         let some : IsSome (first_of first hash) = let P : Option ℕ → Type 0 = λ o. IsSome o in subst P (sym e) refl in
@@ -135,27 +138,31 @@ AreFound-entered first later texts first_then later_then text found (as_first no
     before place hash (inr e) =
         let P : Option ℕ → Type 0 = λ o. IsSome o in
         inr (subst P (sym (kept hash (text_hash text == hash) refl e.0)) e.0, (e.1.0, ap (λ l. slice_get l e.1.0) same ∙ e.1.1))
+
     listed : (place : ℕ) (t : Bytes) → (slice_get texts place ≡ Some t) ⊎ ((place ≡ length texts) × (text ≡ t)) → IsListed first_then later_then (text_hash t) place
     listed place t (inl e) = before place (text_hash t) (found.listed place t e)
     listed place t (inr e) =
         let P : Bytes → Type 0 = λ u. IsListed first_then later_then (text_hash u) place in
         subst P e.1 (inl (entered (text_hash text) ∙ ap (λ b. cond b (Some (length texts)) (first_of first (text_hash text))) ((Decides-eqb (text_hash text) (text_hash text)).1 refl) ∙ ap (λ n. Some n) (sym e.0)))
 AreFound-entered first later texts first_then later_then text found (as_later some same grown) = record {
-      first_within = λ hash place e. more place (found.first_within hash place (ap (λ f. first_of f hash) (sym same) ∙ e));
-      later_within = λ k place e. within place (slice_get-append_by later (length texts) k place (ap (λ l. slice_get l k) (sym grown) ∙ e));
-      listed = λ place t e. listed place t (slice_get-append_by texts text place t e);
-    }
+  first_within = λ hash place e. more place (found.first_within hash place (ap (λ f. first_of f hash) (sym same) ∙ e));
+  later_within = λ k place e. within place (slice_get-append_by later (length texts) k place (ap (λ l. slice_get l k) (sym grown) ∙ e));
+  listed = λ place t e. listed place t (slice_get-append_by texts text place t e);
+}
   where
     more : (place : ℕ) → place < length texts → place < length (texts ++ text ∷ [])
     more place h = let longer = length-append texts (text ∷ []) in omega (arith, longer)
+
     within : {k : ℕ} (place : ℕ) → (slice_get later k ≡ Some place) ⊎ ((k ≡ length later) × (length texts ≡ place)) → place < length (texts ++ text ∷ [])
     within {k} place (inl e) = more place (found.later_within k place e)
     within place (inr e) = let longer = length-append texts (text ∷ []) in let same_place = e.1 in omega (arith, longer)
+
     before : (place hash : ℕ) → IsListed first later hash place → IsListed first_then later_then hash place
     before place hash (inl e) = inl (ap (λ f. first_of f hash) same ∙ e)
     before place hash (inr e) =
         let P : Option ℕ → Type 0 = λ o. IsSome o in
         inr (subst P (ap (λ f. first_of f hash) (sym same)) e.0, (e.1.0, ap (λ l. slice_get l e.1.0) grown ∙ slice_get-append_left later (length texts ∷ []) e.1.0 place e.1.1))
+
     listed : (place : ℕ) (t : Bytes) → (slice_get texts place ≡ Some t) ⊎ ((place ≡ length texts) × (text ≡ t)) → IsListed first_then later_then (text_hash t) place
     listed place t (inl e) = before place (text_hash t) (found.listed place t e)
     listed place t (inr e) =

@@ -1,10 +1,8 @@
 -- Values of a heap are the same as the definitions say, and so are the places of its tables.
-use Rattle.std.proofs.Common.{map, ◌≡◌, ℕ, zero, suc, ℤ, pos, negsuc, ◌<◌, ◌≤◌, Bool, true, false, cond, List, [], ◌∷◌, ◌++◌, length, Option, None, Some, refl, sym, ap, subst, ◌∙◌, slice_get, arith, IfSome}
-use Rattle.std.specs.Prelude.{bytes_eq, nat_eq, unwrap_or, IsTrue}
+use Rattle.std.proofs.Common.{map, ◌≡◌, ℕ, zero, suc, ℤ, pos, negsuc, ◌<◌, ◌≤◌, Bool, true, false, cond, List, [], ◌∷◌, ◌++◌, length, Option, None, Some, refl, ap, subst, ◌∙◌, slice_get, arith, IfSome}
 use Rattle.std.specs.Bool.{Decides}
 use Rattle.std.specs.List.{AllByRecursion}
 use Rattle.std.specs.Option.{option_map}
-use Rattle.std.proofs.lemmas.Option.{none-some, same_Some, slice_get_within}
 use Rattle.std.proofs.lemmas.Bool.Decides.{Decides-eqb, same_from_decides}
 use Rattle.std.proofs.lemmas.Slice.Eq.{bytes_eq-Decides}
 use Rattle.lua_table.specs.Table.{Places, get, set, clear_key, has_place}
@@ -14,7 +12,7 @@ use Rattle.lua_meaning.specs.Value.{same, same_number, same_flag}
 use Rattle.lua_heap.specs.declared.value.Value.{Value}
 use Rattle.lua_heap.specs.declared.value.Value.TheVariants.{Nil, Bool as Flag, Num, Str, Table, Func, Native, Channel, Thread, Data}
 use Rattle.lua_heap.specs.Texts.{AreOnce}
-use Rattle.lua_heap.specs.Value.{text_at, value_view, place_view, places_view, Counts, IsCounted, IsCountedPlace, AreCounted}
+use Rattle.lua_heap.specs.Value.{text_at, value_view, place_view, places_view, Counts, IsCounted, AreCounted}
 use Rattle.lua_heap.proofs.NativeLemmas.{same_native-view, same_native-same}
 
 -- ---- the text of an id
@@ -116,8 +114,8 @@ module _ (texts : List Bytes) (once : AreOnce texts) (c : Counts) (size : c.text
       where
         by : (b : Bool) → places_view texts (set eq rest key value) ≡ set same (places_view texts rest) (value_view texts key) (value_view texts value)
             → places_view texts (cond b ((place.0, Some value) ∷ rest) (place ∷ set eq rest key value))
-              ≡ cond b ((value_view texts place.0, Some (value_view texts value)) ∷ places_view texts rest)
-                (place_view texts place ∷ set same (places_view texts rest) (value_view texts key) (value_view texts value))
+            ≡ cond b ((value_view texts place.0, Some (value_view texts value)) ∷ places_view texts rest)
+            (place_view texts place ∷ set same (places_view texts rest) (value_view texts key) (value_view texts value))
         by true e = refl
         by false e = ap (λ ps. place_view texts place ∷ ps) e
 
@@ -129,8 +127,8 @@ module _ (texts : List Bytes) (once : AreOnce texts) (c : Counts) (size : c.text
       where
         by : (b : Bool) → places_view texts (clear_key eq rest key) ≡ clear_key same (places_view texts rest) (value_view texts key)
             → places_view texts (cond b ((place.0, None) ∷ rest) (place ∷ clear_key eq rest key))
-              ≡ cond b ((value_view texts place.0, None) ∷ places_view texts rest)
-                (place_view texts place ∷ clear_key same (places_view texts rest) (value_view texts key))
+            ≡ cond b ((value_view texts place.0, None) ∷ places_view texts rest)
+            (place_view texts place ∷ clear_key same (places_view texts rest) (value_view texts key))
         by true e = refl
         by false e = ap (λ ps. place_view texts place ∷ ps) e
 

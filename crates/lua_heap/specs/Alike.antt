@@ -1,6 +1,6 @@
 -- Values that `==` calls equal are one value.
 use Rattle.std.specs.Prelude.{◌≡◌, Bool, true, refl}
-use Rattle.std.proofs.Common.{ap, rules, arith}
+use Rattle.std.proofs.Common.{ap, rules}
 use Rattle.lua_heap.specs.contracts.native.Native.{the_type as native_type}
 use Rattle.lua_heap.specs.contracts.value.ValuePartialEq.TheImpl.{ghosts}
 use Rattle.lua_heap.specs.declared.value.Value.{Value}

@@ -1,9 +1,8 @@
 -- What a heap is to the definitions: the store of a state.
-use Rattle.std.specs.Prelude.{◌≡◌, ℕ, ◌<◌, ◌≤◌, List, [], ◌∷◌, ◌++◌, length, Option, Some, None, IfSome, slice_get, unwrap_or, map, codes}
+use Rattle.std.specs.Prelude.{◌≡◌, ℕ, ◌<◌, ◌≤◌, List, [], length, Option, Some, IfSome, slice_get, unwrap_or, map, codes}
 use Rattle.std.specs.List.{AllByRecursion}
 use Rattle.love_base.specs.Data.{Contents}
 use Rattle.love_base.specs.Prefix.{IsPrefix}
-use Rattle.lua_table.specs.Table.{Places}
 use Rattle.lua_tree.specs.Tree.{Bytes}
 use Rattle.lua_meaning.specs.Store.{Store, Closure, Table}
 use Rattle.lua_heap.specs.declared.entries.Function.{Function}

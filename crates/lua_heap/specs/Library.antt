@@ -1,8 +1,8 @@
 -- How the first tables are filled.
 use Rattle.std.specs.Prelude.{ℕ, List, [], ◌∷◌, None, codes, replicate}
 use Rattle.lua_tree.specs.Tree.{Bytes}
-use Rattle.lua_meaning.specs.Native.{Native, Shelf, globals, string_table, table_table, math_table, love_thread, love_data, love_filesystem, love_event, name, on_shelf}
-use Rattle.lua_meaning.specs.Value.{Value, str, table, native}
+use Rattle.lua_meaning.specs.Native.{Native, globals, string_table, table_table, math_table, love_thread, love_data, love_filesystem, love_event, name, on_shelf}
+use Rattle.lua_meaning.specs.Value.{str, table, native}
 use Rattle.lua_meaning.specs.Store.{Store, no_table, raw_set, globals_place, string_place, table_place, math_place, love_place, love_thread_place, love_data_place, love_filesystem_place, love_event_place, text_meta_place}
 use Rattle.lua_heap.specs.declared.entries.TableEntry.{TableEntry}
 

@@ -1,5 +1,5 @@
 -- Values as keys of tables: which number each stands for, and what is hashed of it.
-use Rattle.std.specs.Prelude.{ℕ, zero, suc, ℤ, pos, negsuc, List, [], ◌∷◌, Option, None, Some, nat_le, if◌then◌else◌}
+use Rattle.std.specs.Prelude.{ℕ, zero, suc, ℤ, pos, negsuc, List, [], Option, None, Some, nat_le, if◌then◌else◌}
 use Rattle.std.specs.Hash as fed
 use Rattle.lua_heap.specs.declared.value.Value.{Value}
 use Rattle.lua_heap.specs.declared.value.Value.TheVariants.{Nil, Bool, Num, Str, Table, Func, Native, Channel, Thread, Data}

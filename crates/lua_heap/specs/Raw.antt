@@ -1,5 +1,5 @@
 -- A table of a heap that gets a value.
-use Rattle.std.specs.Prelude.{Bool, Option, if◌then◌else◌, true, false}
+use Rattle.std.specs.Prelude.{Bool, if◌then◌else◌, true, false}
 use Rattle.lua_table.specs.Table.{Places, set, clear_key}
 use Rattle.lua_heap.specs.declared.value.Value.{Value}
 use Rattle.lua_heap.specs.declared.value.Value.TheVariants.{Nil}

@@ -1,5 +1,5 @@
 -- What the values of a heap are to the definitions.
-use Rattle.std.specs.Prelude.{ℕ, ◌<◌, List, Option, Some, None, IfSome, slice_get, unwrap_or, map, ⊤, []}
+use Rattle.std.specs.Prelude.{ℕ, ◌<◌, List, Option, IfSome, slice_get, unwrap_or, map, ⊤, []}
 use Rattle.std.specs.List.{AllByRecursion}
 use Rattle.std.specs.Option.{option_map}
 use Rattle.lua_table.specs.Table.{Places}

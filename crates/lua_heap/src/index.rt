@@ -49,6 +49,7 @@ enum Step<T> {
 
 // The ids of the two events' names.
 const INDEX: usize = 0;
+
 const NEWINDEX: usize = 1;
 
 // How many values of a chain are indexed: the first one and 99 handlers.
@@ -61,7 +62,7 @@ impl Heap {
         requires key { IsMade self.now key }
         ensures lookup { (closure : Made → Closure) →
             lookup_view self.now.texts result ≡ lookup (store_of closure self.now)
-                (value_view self.now.texts base) (value_view self.now.texts key) }
+            (value_view self.now.texts base) (value_view self.now.texts key) }
         ensures made { IsMadeLookup self.now result }
     {
         let mut at = base;
@@ -82,7 +83,7 @@ impl Heap {
         requires key { IsMade self.now key }
         ensures setting { (closure : Made → Closure) →
             setting_view self.now.texts result ≡ setting (store_of closure self.now)
-                (value_view self.now.texts base) (value_view self.now.texts key) }
+            (value_view self.now.texts base) (value_view self.now.texts key) }
         ensures made { IsMadeStore self.now result }
     {
         let mut at = base;
@@ -105,8 +106,8 @@ impl Heap {
         ensures step { (closure : Made → Closure) (next : Meant → MeantLookup) →
             found_by self.now.texts next result
             ≡ by_own (store_of closure self.now) (value_view self.now.texts base.now)
-                (own_value (store_of closure self.now) (value_view self.now.texts base.now)
-                    (value_view self.now.texts key.now)) next }
+            (own_value (store_of closure self.now) (value_view self.now.texts base.now)
+            (value_view self.now.texts key.now)) next }
         ensures made { IsMadeStep (IsMadeLookup self.now) self.now result }
     {
         match self.own(*base, *key) {
@@ -123,7 +124,7 @@ impl Heap {
         ensures step { (closure : Made → Closure) (next : Meant → Setting) →
             set_by self.now.texts next result
             ≡ set_by_own (store_of closure self.now) (value_view self.now.texts base.now)
-                (value_view self.now.texts key.now) next }
+            (value_view self.now.texts key.now) next }
         ensures made { IsMadeStep (IsMadeStore self.now) self.now result }
     {
         match self.own_table(base, key) {
@@ -163,10 +164,10 @@ impl Heap {
         requires key { IsMade self.now key.now }
         ensures own { (closure : Made → Closure) (next : Meant → Setting) →
             set_by_own (store_of closure self.now) (value_view self.now.texts base.now)
-                (value_view self.now.texts key.now) next
+            (value_view self.now.texts key.now) next
             ≡ option_map_or in_table result (set_by_handler (value_view self.now.texts base.now)
-                (handler (store_of closure self.now) (value_view self.now.texts base.now)
-                    (codes "__newindex")) next) }
+            (handler (store_of closure self.now) (value_view self.now.texts base.now)
+            (codes "__newindex")) next) }
         ensures made { IsMadeTable self.now result }
     {
         let Value::Table(id) = *base else {
@@ -186,7 +187,7 @@ impl Heap {
         ensures own { (closure : Made → Closure) →
             value_option_view self.now.texts result
             ≡ own_value (store_of closure self.now) (value_view self.now.texts base)
-                (value_view self.now.texts key) }
+            (value_view self.now.texts key) }
         ensures made { IsMadeOption self.now result }
     {
         match base {
@@ -205,7 +206,7 @@ impl Heap {
         requires key { IsMade self.now key }
         ensures method { (closure : Made → Closure) → value_view self.now.texts result
             ≡ method_named (methods_of_data (contents_at (store_of closure self.now) id).name)
-                (value_view self.now.texts key) }
+            (value_view self.now.texts key) }
         ensures made { IsMade self.now result }
     {
         match self.data_of(id).name() {

@@ -19,15 +19,25 @@ use std::alloc::Global;
 
 // The first tables, by their places.
 const GLOBALS: usize = 0;
+
 const STRING: usize = 1;
+
 const TABLE: usize = 2;
+
 const MATH: usize = 3;
+
 const LOVE: usize = 4;
+
 const LOVE_THREAD: usize = 5;
+
 const LOVE_DATA: usize = 6;
+
 const LOVE_FILESYSTEM: usize = 7;
+
 const LOVE_EVENT: usize = 8;
+
 const TEXT_META: usize = 9;
+
 const TABLE_COUNT: usize = 10;
 
 // The functions among the globals (Lua 5.1 manual §5.1).
@@ -95,10 +105,7 @@ const THREAD_FUNCTIONS: [Native; 3] = [
 ];
 
 // Those of `love.data` (LÖVE wiki).
-const DATA_FUNCTIONS: [Native; 2] = [
-    Native::LoveDataNewByteData,
-    Native::LoveDataNewDataView,
-];
+const DATA_FUNCTIONS: [Native; 2] = [Native::LoveDataNewByteData, Native::LoveDataNewDataView];
 
 // Those of `love.filesystem` (LÖVE wiki).
 const FILESYSTEM_FUNCTIONS: [Native; 2] = [
@@ -233,7 +240,7 @@ impl Heap {
         requires value { IsMade self.old value }
         ensures { OnOk result ((closure : Made → Closure) → store_of closure self.new
             ≡ raw_set (store_of closure self.old) table (str name.now)
-                (value_view self.old.texts value)) }
+            (value_view self.old.texts value)) }
     {
         let key = Value::Str(self.intern(name)?);
         let _tables = &self.tables;

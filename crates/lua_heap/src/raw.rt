@@ -68,7 +68,7 @@ impl Heap {
         ensures cleared { value ≡ Value.Nil → IsOk result }
         ensures placed { (closure : Made → Closure) →
             IsTrue (has_place same (table_at (store_of closure self.old) id).places
-                (value_view self.old.texts key))
+            (value_view self.old.texts key))
             → IsOk result }
         ensures extends { Extends self.old self.new }
     {
@@ -114,7 +114,7 @@ impl Heap {
         ensures handler { (closure : Made → Closure) →
             value_view self.now.texts result
             ≡ handler (store_of closure self.now) (value_view self.now.texts value)
-                (text_at self.now.texts event) }
+            (text_at self.now.texts event) }
         ensures made { IsMade self.now result }
     {
         match self.metatable(value) {

@@ -103,12 +103,7 @@ fn one_text_has_one_id(rt: HostRuntime) -> Result<(), Memory> {
     let a = text(&mut heap, b"a");
     let b = text(&mut heap, b"a\0");
     let empty = text(&mut heap, b"");
-    for (bytes, id) in [
-        (b"a".as_slice(), a),
-        (b"a\0", b),
-        (b"", empty),
-        (b"a", a),
-    ] {
+    for (bytes, id) in [(b"a".as_slice(), a), (b"a\0", b), (b"", empty), (b"a", a)] {
         assert_eq!(rt; text(&mut heap, bytes), id);
         assert_eq!(rt; bytes_of(&heap, id), bytes);
     }
@@ -140,7 +135,11 @@ fn the_library_is_there(rt: HostRuntime) -> Result<(), Memory> {
         assert_eq!(rt; field(&mut heap, table, name), Value::Native(function));
     }
     for (module, name, function) in [
-        (b"thread".as_slice(), b"newChannel".as_slice(), Native::LoveThreadNewChannel),
+        (
+            b"thread".as_slice(),
+            b"newChannel".as_slice(),
+            Native::LoveThreadNewChannel,
+        ),
         (b"data", b"newByteData", Native::LoveDataNewByteData),
         (b"filesystem", b"read", Native::LoveFilesystemRead),
     ] {
@@ -203,8 +202,14 @@ fn setting_follows_handlers(rt: HostRuntime) -> Result<(), Memory> {
     assert!(rt; set(&mut heap, meta, event, meta));
     assert_eq!(rt; new_index(&heap, base, b), Some(Store::Raw(meta_id)));
     assert!(rt; set(&mut heap, meta, event, Value::Bool(true)));
-    assert_eq!(rt; new_index(&heap, base, b), Some(Store::Not(Value::Bool(true))));
-    assert_eq!(rt; new_index(&heap, Value::Nil, b), Some(Store::Not(Value::Nil)));
+    assert_eq!(rt;
+        new_index(&heap, base, b),
+        Some(Store::Not(Value::Bool(true)))
+    );
+    assert_eq!(rt;
+        new_index(&heap, Value::Nil, b),
+        Some(Store::Not(Value::Nil))
+    );
     Ok(())
 }
 
@@ -255,15 +260,39 @@ fn strings_and_objects_have_fields(rt: HostRuntime) -> Result<(), Memory> {
     let name = Some(Text::of(alloc, b"a.txt")?);
     let file = Value::Data(heap.add_data(Data::new(alloc, b"xy", name)?)?);
     for (base, key, lookup) in [
-        (string, b"rep".as_slice(), Lookup::Found(Value::Native(Native::StringRep))),
+        (
+            string,
+            b"rep".as_slice(),
+            Lookup::Found(Value::Native(Native::StringRep)),
+        ),
         (string, b"no", Lookup::Found(Value::Nil)),
-        (channel, b"push", Lookup::Found(Value::Native(Native::ChannelPush))),
-        (channel, b"typeOf", Lookup::Found(Value::Native(Native::ObjectTypeOf))),
+        (
+            channel,
+            b"push",
+            Lookup::Found(Value::Native(Native::ChannelPush)),
+        ),
+        (
+            channel,
+            b"typeOf",
+            Lookup::Found(Value::Native(Native::ObjectTypeOf)),
+        ),
         (channel, b"start", Lookup::Found(Value::Nil)),
-        (Value::Thread(1), b"start", Lookup::Found(Value::Native(Native::ThreadStart))),
-        (bytes, b"getSize", Lookup::Found(Value::Native(Native::DataGetSize))),
+        (
+            Value::Thread(1),
+            b"start",
+            Lookup::Found(Value::Native(Native::ThreadStart)),
+        ),
+        (
+            bytes,
+            b"getSize",
+            Lookup::Found(Value::Native(Native::DataGetSize)),
+        ),
         (bytes, b"getFilename", Lookup::Found(Value::Nil)),
-        (file, b"getFilename", Lookup::Found(Value::Native(Native::DataGetFilename))),
+        (
+            file,
+            b"getFilename",
+            Lookup::Found(Value::Native(Native::DataGetFilename)),
+        ),
         (number(1), b"x", Lookup::Not(number(1))),
         (Value::Bool(true), b"x", Lookup::Not(Value::Bool(true))),
     ] {

@@ -52,7 +52,9 @@ fn hash_of(text: &[u8]) -> u64
 fn append(arena: &mut Vec<u8>, spans: &mut Vec<Span>, text: &[u8]) -> Result<(), Memory>
     ensures arena { OnOk result (arena.new.items ≡ arena.old.items ++ text.now) }
     ensures spans { OnOk result (spans.new.items ≡ spans.old.items ++ record {
-        start = length arena.old.items; end = length arena.old.items + length text.now } ∷ []) }
+      start = length arena.old.items;
+      end = length arena.old.items + length text.now;
+    } ∷ []) }
     ensures arena_refused { OnErr result (arena.new.items ≡ arena.old.items) }
     ensures spans_refused { OnErr result (spans.new.items ≡ spans.old.items) }
 {

@@ -1,4 +1,4 @@
-use Rattle.std.proofs.Common.{sym, ◌∙◌, arith, get_or}
+use Rattle.std.proofs.Common.{sym, ◌∙◌, arith}
 use Rattle.std.proofs.lemmas.Option.{slice_get_within}
 use Rattle.lua_heap.proofs.TextsLemmas.{later-more}
 use Rattle.lua_heap.proofs.texts.find_later.Goals as goal

@@ -1,6 +1,6 @@
 use Rattle.std.proofs.Common.{ap, ◌∙◌}
 use Rattle.std.specs.Prelude.{codes}
-use Rattle.lua_meaning.specs.Native.{string_table, table_table, math_table, on_shelf}
+use Rattle.lua_meaning.specs.Native.{table_table, math_table, on_shelf}
 use Rattle.lua_heap.specs.Library.{with_functions, with_table}
 use Rattle.lua_heap.proofs.heap.Heap.fill_library.Goals as goal
 

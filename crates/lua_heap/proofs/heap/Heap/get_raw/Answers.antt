@@ -1,4 +1,4 @@
-use Rattle.std.proofs.Common.{◌≡◌, slice_get, sym, Some, None}
+use Rattle.std.proofs.Common.{sym, Some, None}
 use Rattle.lua_heap.proofs.HeapLemmas.{entry-there, raw_get-view, raw_get-made}
 use Rattle.lua_heap.proofs.heap.Heap.get_raw.Goals as goal
 

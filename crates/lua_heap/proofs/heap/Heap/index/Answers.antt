@@ -6,7 +6,7 @@ use Rattle.lua_heap.proofs.IndexLemmas.{lookup-start, lookup-next}
 use Rattle.lua_heap.proofs.heap.Heap.index.Goals as goal
 
 pub loop-left-init : goal.loop-left-init
-loop-left-init c = record { same = λ closure. lookup-start _ _ _; made = c.requires.base }
+loop-left-init c = record { same = λ closure. lookup-start (store_of closure c.args.self.now) (value_view c.args.self.now.texts c.args.base) (value_view c.args.self.now.texts c.args.key); made = c.requires.base }
 
 pub loop-left-preserved : goal.loop-left-preserved
 loop-left-preserved c =

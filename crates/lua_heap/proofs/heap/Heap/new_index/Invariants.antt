@@ -1,4 +1,4 @@
-use Rattle.std.proofs.Common.{◌≡◌, ℕ}
+use Rattle.std.proofs.Common.{◌≡◌}
 use Rattle.lua_meaning.specs.Store.{Closure}
 use Rattle.lua_meaning.specs.Handlers.{setting, setting_within}
 use Rattle.lua_heap.specs.declared.entries.Function.{Function}

@@ -1,4 +1,4 @@
-use Rattle.std.proofs.Common.{◌≡◌, [], ap, ◌∙◌}
+use Rattle.std.proofs.Common.{[], ap}
 use Rattle.std.specs.Prelude.{unwrap_or}
 use Rattle.lua_meaning.specs.Value.{str}
 use Rattle.lua_heap.proofs.HeapLemmas.{value_view-later, put_store}

@@ -1,4 +1,4 @@
-use Rattle.std.proofs.Common.{◌≡◌, slice_get, sym, Some, true≢false}
+use Rattle.std.proofs.Common.{sym, true≢false}
 use Rattle.lua_heap.proofs.HeapLemmas.{entry-there, IsHeap-set_raw, Becomes-set_raw, has_place-raw}
 use Rattle.lua_heap.proofs.heap.Heap.set_raw.Goals as goal
 

@@ -1,5 +1,5 @@
-use Rattle.std.proofs.Common.{◌≡◌, ℕ, List, [], ◌∷◌, ◌++◌, length, sym, ap, ◌∙◌, slice_get, Some, rules}
-use Rattle.lua_heap.specs.Texts.{AreTexts, spanned}
+use Rattle.std.proofs.Common.{◌≡◌, [], ◌∷◌, ◌++◌, length, sym, ap, ◌∙◌, slice_get, rules}
+use Rattle.lua_heap.specs.Texts.{AreTexts}
 use Rattle.lua_heap.proofs.TextsLemmas.{AreTexts-added, spanned-added, slice_get-added, interned-new}
 use Rattle.lua_heap.proofs.texts.Texts.add.Goals as goal
 
