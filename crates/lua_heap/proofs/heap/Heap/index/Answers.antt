@@ -1,0 +1,30 @@
+use Rattle.std.proofs.Common.{◌≡◌, suc, ◌-◌, sym, ap, ◌∙◌, arith}
+use Rattle.lua_meaning.specs.Handlers.{lookup_within}
+use Rattle.lua_heap.specs.Value.{value_view}
+use Rattle.lua_heap.specs.Heap.{store_of}
+use Rattle.lua_heap.proofs.IndexLemmas.{lookup-start, lookup-next}
+use Rattle.lua_heap.proofs.heap.Heap.index.Goals as goal
+
+pub loop-left-init : goal.loop-left-init
+loop-left-init c = record { same = λ closure. lookup-start (store_of closure c.args.self.now) (value_view c.args.self.now.texts c.args.base) (value_view c.args.self.now.texts c.args.key); made = c.requires.base }
+
+pub loop-left-preserved : goal.loop-left-preserved
+loop-left-preserved c =
+    let left : c.loop-left.left ≡ suc (c.loop-left.left - 1) = omega arith in
+    record {
+      same = λ closure.
+          c.loop-left.invariant.same closure ∙ lookup-next (store_of closure c.args.self.now) (value_view c.args.self.now.texts c.args.key) (value_view c.args.self.now.texts c.loop-left.at) _ _ left
+          ∙ sym (c.in-Goes.ensures.step closure (λ h. lookup_within (c.loop-left.left - 1) (store_of closure c.args.self.now) (value_view c.args.self.now.texts c.args.key) h));
+      made = c.in-Goes.ensures.made;
+    }
+
+pub returns-in-Ends-clause-lookup : goal.returns-in-Ends-clause-lookup
+returns-in-Ends-clause-lookup c = λ closure.
+    let left : c.loop-left.left ≡ suc (c.loop-left.left - 1) = omega arith in
+    c.in-Ends.ensures.step closure (λ h. lookup_within (c.loop-left.left - 1) (store_of closure c.args.self.now) (value_view c.args.self.now.texts c.args.key) h)
+    ∙ sym (c.loop-left.invariant.same closure ∙ lookup-next (store_of closure c.args.self.now) (value_view c.args.self.now.texts c.args.key) (value_view c.args.self.now.texts c.loop-left.at) _ _ left)
+
+pub returns-clause-lookup : goal.returns-clause-lookup
+returns-clause-lookup c = λ closure.
+    let none : c.loop-left.left ≡ 0 = omega arith in
+    sym (c.loop-left.invariant.same closure ∙ ap (λ n. lookup_within n (store_of closure c.args.self.now) (value_view c.args.self.now.texts c.args.key) (value_view c.args.self.now.texts c.loop-left.at)) none)

@@ -1,0 +1,9 @@
+use Rattle.std.proofs.Common.{sym, ap, ◌∙◌}
+use Rattle.lua_meaning.specs.Store.{metatable}
+use Rattle.lua_heap.specs.Value.{value_view}
+use Rattle.lua_heap.specs.Heap.{store_of}
+use Rattle.lua_heap.proofs.heap.Heap.metatable.Goals as goal
+
+pub returns-in-Table-clause-meta : goal.returns-in-Table-clause-meta
+returns-in-Table-clause-meta c = λ closure.
+    c.meta.ensures.meta closure ∙ ap (λ v. metatable (store_of closure c.args.self.now) (value_view c.args.self.now.texts v)) (sym c.in-Table.is)

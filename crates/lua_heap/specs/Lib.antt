@@ -1,0 +1,9 @@
+pub mod Native
+pub mod Alike
+pub mod Position
+pub mod Texts
+pub mod Value
+pub mod Raw
+pub mod Heap
+pub mod Index
+pub mod Library
