@@ -1,0 +1,3 @@
+pub mod Instr
+pub mod Scope
+pub mod Code
