@@ -1,1 +1,3 @@
-
+pub mod Registers
+pub mod Goes
+pub mod Operators

@@ -1,6 +1,6 @@
 -- The code of a tree, with one case for each kind of node: the code of its parts in the tree's order, and the node's own
 -- instructions between them.
-use Rattle.std.specs.Prelude.{ℕ, zero, suc, pos, ◌+◌, ◌-◌, max, Bool, true, false, List, [], ◌∷◌, ◌++◌, length, Option, Some, None, if◌then◌else◌, nat_eq}
+use Rattle.std.specs.Prelude.{ℕ, zero, suc, pos, ◌+◌, ◌-◌, max, Bool, true, false, List, [], ◌∷◌, ◌++◌, length, Option, Some, None, if◌then◌else◌, ◌==◌}
 use Rattle.lua_tree.specs.Tree.{Bytes, UnOp, BinOp, Expr, nil, true_, false_, number, str, dots, function, name, index, call, method, table, unary, binary, paren, Exprs, no_exprs, expr_and, Fields, no_fields, item_and, keyed_and, Func, func, Block, no_stats, stat_and, Stat, assign, local, call_stat, do_block, while_loop, repeat_loop, if_stat, num_for, num_for_by, gen_for, function_stat, local_function, return_stat, break_stat, Arms, no_else, else_block, arm_and}
 use Rattle.lua_meaning.specs.Value.{Value}
 use Rattle.lua_meaning.specs.Names.{expr_names, func_names, block_names, captured_in}
@@ -27,13 +27,13 @@ ready (name line x) scope = ready_seat (seat_of scope x)
 ready e scope = None
 
 -- a left operand is in a slot
+abbrev pub seat_slot : Option Seat → Option ℕ
+seat_slot None = None
+seat_slot (Some (at_slot n)) = Some n
+seat_slot (Some (at_cell n)) = None
+
 abbrev pub ready_slot : Expr → Scope → Option ℕ
-ready_slot (name line x) scope = slot_of (ready_seat (seat_of scope x))
-  where
-    slot_of : Option Operand → Option ℕ
-    slot_of None = None
-    slot_of (Some (slot n)) = Some n
-    slot_of (Some (constant v)) = None
+ready_slot (name line x) scope = seat_slot (seat_of scope x)
 ready_slot e scope = None
 
 -- what isn't ready is evaluated
@@ -56,7 +56,7 @@ site line above scope = record { line = line; above = above; cells = cell_count 
 
 -- what stands in a slot is brought to another one
 abbrev pub settle : (to from : ℕ) → List Instr
-settle to from = if nat_eq to from then [] else i.load to (slot from) ∷ []
+settle to from = if to == from then [] else i.load to (slot from) ∷ []
 
 abbrev pub name_code : Site → Bytes → (to : ℕ) → Option Seat → List Instr
 name_code s x to None = i.get_field s to (constant globals) (constant (Value.str x)) ∷ []
@@ -96,7 +96,7 @@ in_fields (keyed_and k f fs) e one all = one
 -- slots get so many values where a list gives others
 abbrev pub fitted : (at wanted given : ℕ) → Bool → List Instr
 fitted at wanted given tailed =
-    if nat_eq wanted given then [] else i.spread (at + given) (wanted - given) tailed ∷ []
+    if wanted == given then [] else i.spread (at + given) (wanted - given) tailed ∷ []
 
 -- ---- statements
 
@@ -138,6 +138,12 @@ stores no_exprs above scope at from = []
 stores (expr_and e es) above scope at from =
     stores es above scope (at + width e) (suc from)
     ++ store e above scope (slot at) (slot (at + 1)) (slot from)
+
+-- a function that stands in its local's slot gets into the local's cell too
+abbrev pub local_code : Option Seat → (from : ℕ) → List Instr
+local_code None from = []
+local_code (Some (at_slot n)) from = []
+local_code (Some (at_cell n)) from = i.set_cell n (slot from) ∷ []
 
 -- a loop's test and its block, which runs while the test is true
 abbrev pub loop_code : (body test : List Instr) → (from : ℕ) → List Instr
@@ -329,11 +335,6 @@ abbrev mutual
       ++ i.close at (func_code f file (cell_names inner (func_names f)))
       (cell_places inner (func_names f))
       ∷ local_code (seat_of inner x) at)
-    where
-      local_code : Option Seat → ℕ → List Instr
-      local_code None from = []
-      local_code (Some (at_slot n)) from = []
-      local_code (Some (at_cell n)) from = i.set_cell n (slot from) ∷ []
   stat_code (return_stat line es) later exit file scope =
       let h : ℕ = slot_count scope in
       exprs_code es file scope h ++ i.leave h (count es) (tailed es) ∷ []

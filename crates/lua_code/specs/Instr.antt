@@ -2,7 +2,7 @@
 --
 -- A place is a slot counted from the frame's base, or a cell counted from the running function's first one. How the
 -- types of the crate are seen: an instruction with its constants and its site, a `Code` as the function of its chunk.
-use Rattle.std.specs.Prelude.{ℕ, Bool, List, Option, Some, None, slice_get}
+use Rattle.std.specs.Prelude.{ℕ, Bool, List, [], ◌∷◌}
 use Rattle.lua_tree.specs.Tree.{Bytes, UnOp, BinOp}
 use Rattle.lua_meaning.specs.Value.{Value}
 
@@ -73,18 +73,33 @@ mutual
     -- the end of a function, with its results
     leave : (from count : ℕ) → (tailed : Bool) → Instr
 
+  pub data Instrs : Type 0 where
+    no_instrs : Instrs
+    instr_and : Instr → Instrs → Instrs
+
   -- a function's code: its file, how many parameters it has, whether extra arguments are kept, and its instructions
   pub data Proto : Type 0 where
-    proto : (file : Bytes) → (params : ℕ) → (varargs : Bool) → List Instr → Proto
+    proto_of : (file : Bytes) → (params : ℕ) → (varargs : Bool) → Instrs → Proto
+
+abbrev pub instrs_of : List Instr → Instrs
+instrs_of [] = no_instrs
+instrs_of (x ∷ xs) = instr_and x (instrs_of xs)
+
+abbrev pub list_of : Instrs → List Instr
+list_of no_instrs = []
+list_of (instr_and x xs) = x ∷ list_of xs
+
+abbrev pub proto : (file : Bytes) → (params : ℕ) → (varargs : Bool) → List Instr → Proto
+proto file params varargs code = proto_of file params varargs (instrs_of code)
 
 abbrev pub file_of : Proto → Bytes
-file_of (proto file params varargs code) = file
+file_of (proto_of file params varargs code) = file
 
 abbrev pub params_of : Proto → ℕ
-params_of (proto file params varargs code) = params
+params_of (proto_of file params varargs code) = params
 
 abbrev pub is_vararg : Proto → Bool
-is_vararg (proto file params varargs code) = varargs
+is_vararg (proto_of file params varargs code) = varargs
 
 abbrev pub code_of : Proto → List Instr
-code_of (proto file params varargs code) = code
+code_of (proto_of file params varargs code) = list_of code

@@ -56,7 +56,7 @@ go_on_lawful (returned vs) next h = gives_lawful _
 pub make_function_lawful : (file : Bytes) (f : Func) (env : Env) →
     Lawful 0 (make_function file f env)
 make_function_lawful file f env =
-    followed 0 (looks_around (λ made s. length made)) (λ place. behind 0 (keeps
+    followed 0 (looks_around (λ functions s. length functions)) (λ place. behind 0 (keeps
     (record { file = file; node = f; cells = cells_of (func_names f) env })) (gives_lawful
     (func place)))
 

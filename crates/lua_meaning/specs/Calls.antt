@@ -67,9 +67,9 @@ callee_made (Some closure) = Some (made closure)
 
 -- a function as a callee
 abbrev pub callee_of : List Closure → Value → Option Callee
-callee_of made (func f) = callee_made (slice_get made f)
-callee_of made (native f) = Some (library f)
-callee_of made v = None
+callee_of functions (func f) = callee_made (slice_get functions f)
+callee_of functions (native f) = Some (library f)
+callee_of functions v = None
 
 abbrev pub with_args : Option Callee → List Value → Option (Callee × List Value)
 with_args None args = None
@@ -78,9 +78,9 @@ with_args (Some callee) args = Some (callee, args)
 -- what a call of a value runs, and on what: another value than a function is called through its handler `__call`, which
 -- is a function and gets the value first
 abbrev pub called : List Closure → Store → Value → List Value → Option (Callee × List Value)
-called made s (func f) args = with_args (callee_of made (func f)) args
-called made s (native f) args = with_args (callee_of made (native f)) args
-called made s v args = with_args (callee_of made (handler s v (codes "__call"))) (v ∷ args)
+called functions s (func f) args = with_args (callee_of functions (func f)) args
+called functions s (native f) args = with_args (callee_of functions (native f)) args
+called functions s v args = with_args (callee_of functions (handler s v (codes "__call"))) (v ∷ args)
 
 abbrev pub enter_called : Later → (at : Option Place) → Calls → Value →
     Option (Callee × List Value) → Act (List Value)
@@ -90,7 +90,7 @@ enter_called again at calls f (Some c) = enter again at calls c.0 c.1
 -- calls a value from a place
 abbrev pub call : Later → (at : Option Place) → Calls → Value → List Value → Act (List Value)
 call again at calls f args =
-    look_around (λ made s. called made s f args) >>= λ c. enter_called again at calls f c
+    look_around (λ functions s. called functions s f args) >>= λ c. enter_called again at calls f c
 
 -- the same from a line of the running function
 abbrev pub call_at : Later → Here → ℕ → Value → List Value → Act (List Value)

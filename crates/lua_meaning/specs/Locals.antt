@@ -104,7 +104,7 @@ cells_of (x ∷ xs) env = cell_found x (find x env) ++ cells_of xs env
 -- a new function of a file
 abbrev pub make_function : (file : Bytes) → Func → Env → Act Value
 make_function file f env = do
-  place ← look_around (λ made s. length made)
+  place ← look_around (λ functions s. length functions)
   keep_function (record {
     file =
         file;
