@@ -156,6 +156,14 @@ each_code s at names =
     i.load (at + 3) (slot at) ∷ i.load (at + 4) (slot (at + 1)) ∷ i.load (at + 5) (slot (at + 2))
     ∷ i.invoke s i.to_tail (at + 3) 2 false ∷ i.spread (at + 3) (max 1 names) true ∷ []
 
+-- a loop's three hidden slots
+abbrev pub numbers_in : Scope → Scope
+numbers_in scope = hidden ∷ hidden ∷ hidden ∷ scope
+
+-- a numeric loop whose three numbers stand from a slot on
+abbrev pub count_code : Site → (at : ℕ) → (turn : List Instr) → List Instr
+count_code s at turn = i.for_begin s at (length turn + 1) ∷ (turn ++ i.for_next at (length turn) ∷ [])
+
 -- a function's body ends without results
 abbrev pub last : Instr
 last = i.leave 0 0 false
@@ -307,14 +315,19 @@ abbrev mutual
       let h : ℕ = slot_count scope in
       expr_code a file scope h h ++ (expr_code b file scope (h + 1) (h + 1)
       ++ i.load (h + 2) (constant (Value.num (pos 1)))
-      ∷ count_code line x body file scope h)
+      ∷ count_code (site line (h + 3) scope) h
+      (declare_code (x ∷ []) (captured_in body) (numbers_in scope)
+      ++ block_code body [] 1 file (declared (x ∷ []) (captured_in body) (numbers_in scope))))
   stat_code (num_for_by line x a b c body) later exit file scope =
       let h : ℕ = slot_count scope in
       expr_code a file scope h h ++ (expr_code b file scope (h + 1) (h + 1)
-      ++ (expr_code c file scope (h + 2) (h + 2) ++ count_code line x body file scope h))
+      ++ (expr_code c file scope (h + 2) (h + 2)
+      ++ count_code (site line (h + 3) scope) h
+      (declare_code (x ∷ []) (captured_in body) (numbers_in scope)
+      ++ block_code body [] 1 file (declared (x ∷ []) (captured_in body) (numbers_in scope)))))
   stat_code (gen_for line xs es body) later exit file scope =
       let h : ℕ = slot_count scope in
-      let outer : Scope = hidden ∷ hidden ∷ hidden ∷ scope in
+      let outer : Scope = numbers_in scope in
       let control : List Instr = each_code (site line (h + 3) scope) h (length xs) in
       let turn : List Instr = declare_code xs (captured_in body) outer ++ block_code body []
           (length control + 1) file (declared xs (captured_in body) outer) in
@@ -339,15 +352,6 @@ abbrev mutual
       let h : ℕ = slot_count scope in
       exprs_code es file scope h ++ i.leave h (count es) (tailed es) ∷ []
   stat_code (break_stat line) later exit file scope = i.skip exit ∷ []
-
-  -- a numeric loop whose three numbers stand from a slot on
-  pub count_code : (line : ℕ) → Bytes → Block → (file : Bytes) → Scope → (h : ℕ) → List Instr
-  count_code line x body file scope h =
-      let outer : Scope = hidden ∷ hidden ∷ hidden ∷ scope in
-      let turn : List Instr = declare_code (x ∷ []) (captured_in body) outer
-          ++ block_code body [] 1 file (declared (x ∷ []) (captured_in body) outer) in
-      i.for_begin (site line (h + 3) scope) h (length turn + 1)
-      ∷ (turn ++ i.for_next h (length turn) ∷ [])
 
   -- the arms of an `if`
   pub arms_code : Arms → (exit : ℕ) → (file : Bytes) → Scope → List Instr

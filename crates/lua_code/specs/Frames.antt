@@ -1,5 +1,5 @@
 -- Calls, and what results and errors do to the frames that wait.
-use Rattle.std.specs.Prelude.{ℕ, zero, suc, ◌+◌, Bool, true, not, List, [], ◌∷◌, ◌++◌, length, map, Option, Some, None, slice_get, if◌then◌else◌, nat_lt, codes}
+use Rattle.std.specs.Prelude.{ℕ, zero, suc, ◌+◌, Bool, true, false, not, List, [], ◌∷◌, ◌++◌, length, drop, map, Option, Some, None, slice_get, if◌then◌else◌, nat_lt, codes}
 use Rattle.lua_tree.specs.Tree.{Bytes}
 use Rattle.lua_meaning.specs.Native.{Native}
 use Rattle.lua_meaning.specs.Value.{Value, nil, flag, str, func, native, first, is_true}
@@ -9,7 +9,6 @@ use Rattle.lua_meaning.specs.Message.{Ask}
 use Rattle.lua_meaning.specs.World.{Module, loaded, Outcome, given, failed}
 use Rattle.lua_meaning.specs.Fault.{Place, placed, call_text}
 use Rattle.lua_meaning.specs.Calls.{Calls, caller}
-use Rattle.lua_meaning.specs.Running.{extra_of}
 use Rattle.lua_meaning.specs.Control.{tried, value_text, line_of, module_value}
 use Rattle.lua_code.specs.Instr.{Wants, to_slot, truth_to, untruth_to, to_tail, nothing, Proto, params_of, is_vararg}
 use Rattle.lua_code.specs.State.{put_values, put_all, Registers, with_tail, put_slot, Made, State, Running, Duty, tries, converts, prints, requires, guards, Frame, waits, serves, Active, lua, library, Config, End, ended, no_ticks, Errand, comes_out, Pending, Step, on, stop, asks}
@@ -61,6 +60,11 @@ called made s v args = with_args (callee_of made (handler s v (codes "__call")))
 abbrev pub ticking : ℕ → State → (State → Step) → Step
 ticking zero st next = stop (no_ticks st)
 ticking (suc n) st next = next (record st { ticks = n })
+
+-- the arguments behind the parameters, where they are kept
+abbrev pub extra_of : (varargs : Bool) → (params : ℕ) → List Value → List Value
+extra_of true params args = drop params args
+extra_of false params args = []
 
 -- a callee's first slots are its parameters, its first cells those that it found around it
 abbrev pub entry : Proto → List ℕ → List Value → (base cell_base : ℕ) → Registers → Registers

@@ -7,3 +7,4 @@ pub mod Doing
 pub mod Natives
 pub mod Act
 pub mod Follows
+pub mod rows

@@ -1,2 +1,4 @@
-//! Code of Lua: what code a tree has, and what it does.
+//! Code of Lua: what code a tree has, and what a machine does with it.
 #![tactic(auto)]
+
+pub mod rows;
