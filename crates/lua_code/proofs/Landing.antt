@@ -1,6 +1,6 @@
 -- What expressions leave in registers, and what single instructions lead to.
 use Rattle.std.proofs.Common.{ℕ, zero, suc, ◌+◌, ◌≡◌, ◌≤◌, ◌<◌, refl, sym, ap, ◌∙◌, subst, List, [], ◌∷◌, ◌++◌, length, Option, Some, None, Bool, true, false, arith, slice_get}
-use Rattle.std.specs.Prelude.{◌==◌}
+use Rattle.std.specs.Prelude.{not, ◌==◌}
 use Rattle.lua_meaning.specs.Value.{Value, flag, first, is_true}
 use Rattle.lua_meaning.specs.World.{World, Ends, gives, fails, out_of_steps, needs, ◌>>>◌}
 use Rattle.lua_meaning.specs.Calls.{Later, Here, call_at}
@@ -82,7 +82,7 @@ module _ (game : Game) (n : ℕ) (again : Later) (invokes : Invokes game n again
       → Goes P w.ticks frames run.base run.cell_base t (going P run pc frames w t) (used again (here_of run frames) line u (first vs) w) (λ v t. Got r t run.base some high to v) (λ v w t. going P run pc frames w t)
   uses plain line vs r t w some high above to pc l x = (t, omega arith, stays_self t run.base run.cell_base, subst (λ t. Got r t run.base some high to (first vs)) (sym x.2) (lands r x.0 run.base some high to (first vs) (stays_less r x.0 (run.base + above) (run.base + high) some some (omega (arith, l)) (omega arith) x.1)), comes_self _)
   uses truth line vs r t w some high above to pc l x = (t, omega arith, stays_self t run.base run.cell_base, subst (λ t. Got r t run.base some high to (flag (is_true (first vs)))) (sym x.2) (lands r x.0 run.base some high to _ (stays_less r x.0 (run.base + above) (run.base + high) some some (omega (arith, l)) (omega arith) x.1)), comes_self _)
-  uses untruth line vs r t w some high above to pc l x = (t, omega arith, stays_self t run.base run.cell_base, subst (λ t. Got r t run.base some high to _) (sym x.2) (lands r x.0 run.base some high to _ (stays_less r x.0 (run.base + above) (run.base + high) some some (omega (arith, l)) (omega arith) x.1)), comes_self _)
+  uses untruth line vs r t w some high above to pc l x = (t, omega arith, stays_self t run.base run.cell_base, subst (λ t. Got r t run.base some high to (flag (not (is_true (first vs))))) (sym x.2) (lands r x.0 run.base some high to (flag (not (is_true (first vs)))) (stays_less r x.0 (run.base + above) (run.base + high) some some (omega (arith, l)) (omega arith) x.1)), comes_self _)
 
   -- what an operator or a field comes to
   pub does_goes : (d : Doing) (s : Site) (pc end high to : ℕ) (r : Registers) (w : World) → w.ticks ≤ n → high ≤ s.above → end ≡ pc + 1

@@ -213,7 +213,7 @@ abbrev mutual
       ++ (i.invoke (site line h scope) (i.to_slot h) h (suc (count es)) (tailed es)
       ∷ settle to h))
   expr_code (table line fs) file scope h to =
-      i.new_table h ∷ (fields_code fs line 1 file scope (suc h) ++ settle to h)
+      i.new_table h ∷ (fields_code fs line 1 file scope h ++ settle to h)
   expr_code (unary line op e) file scope h to =
       unless_ready (ready_slot e scope) (expr_code e file scope h h)
       ++ i.unary (site line (suc h) scope) op to (slot (slot_place (ready_slot e scope) h)) ∷ []
@@ -250,20 +250,20 @@ abbrev mutual
       in_list es e (expr_code e file scope h h) (tail_code e file scope h)
       ++ exprs_code es file scope (suc h)
 
-  -- the fields of a table that stands in the slot below; n is the position of the next item
-  pub fields_code : Fields → (line n : ℕ) → (file : Bytes) → Scope → (h : ℕ) → List Instr
-  fields_code no_fields line n file scope h = []
-  fields_code (item_and e fs) line n file scope h =
-      in_fields fs e (unless_ready (ready e scope) (expr_code e file scope h h)
-      ++ i.set_item (h - 1) n (place (ready e scope) h) ∷ [])
-      (tail_code e file scope h ++ i.set_rest (h - 1) n ∷ [])
-      ++ fields_code fs line (suc n) file scope h
-  fields_code (keyed_and k e fs) line n file scope h =
-      unless_ready (ready k scope) (expr_code k file scope h h)
-      ++ (unless_ready (ready e scope) (expr_code e file scope (suc h) (suc h))
-      ++ i.set_new (site line (h + 2) scope) (h - 1) (place (ready k scope) h)
-      (place (ready e scope) (suc h))
-      ∷ fields_code fs line n file scope h)
+  -- the fields of a table that stands in a slot; n is the position of the next item
+  pub fields_code : Fields → (line n : ℕ) → (file : Bytes) → Scope → (at : ℕ) → List Instr
+  fields_code no_fields line n file scope at = []
+  fields_code (item_and e fs) line n file scope at =
+      in_fields fs e (unless_ready (ready e scope) (expr_code e file scope (suc at) (suc at))
+      ++ i.set_item at n (place (ready e scope) (suc at)) ∷ [])
+      (tail_code e file scope (suc at) ++ i.set_rest at n ∷ [])
+      ++ fields_code fs line (n + 1) file scope at
+  fields_code (keyed_and k e fs) line n file scope at =
+      unless_ready (ready k scope) (expr_code k file scope (suc at) (suc at))
+      ++ (unless_ready (ready e scope) (expr_code e file scope (at + 2) (at + 2))
+      ++ i.set_new (site line (at + 3) scope) at (place (ready k scope) (suc at))
+      (place (ready e scope) (at + 2))
+      ∷ fields_code fs line n file scope at)
 
   -- a function that finds cells of some names around it: its captured parameters get cells first
   pub func_code : Func → (file : Bytes) → (outer : List Bytes) → Proto
