@@ -36,7 +36,7 @@ slot_low None slots some h b l = omega arith
 slot_low (Some (at_slot k)) slots some h b l = omega (arith, b, l)
 slot_low (Some (at_cell k)) slots some h b l = omega arith
 
-left_low : (e : Expr) (scope : Scope) (h : ℕ) → slot_count scope ≤ h → slot_place (ready_slot e scope) h < suc h
+pub left_low : (e : Expr) (scope : Scope) (h : ℕ) → slot_count scope ≤ h → slot_place (ready_slot e scope) h < suc h
 left_low (nil line) scope h l = omega arith
 left_low (true_ line) scope h l = omega arith
 left_low (false_ line) scope h l = omega arith
@@ -92,7 +92,7 @@ module _ (game : Game) (n : ℕ) (again : Later) (invokes : Invokes game n again
   -- ---- names
 
   -- a field of a value, as an instruction reads it
-  field_goes : (x : Instr) (s : Site) (a b : Operand) (base key : Value) (pc end high to : ℕ) (r : Registers) (w : World) → w.ticks ≤ n → high ≤ s.above → end ≡ pc + 1 → slice_get code pc ≡ Some (i.get_field s to a b) → held_in r run.base a ≡ base → held_in r run.base b ≡ key
+  pub field_goes : (x : Instr) (s : Site) (a b : Operand) (base key : Value) (pc end high to : ℕ) (r : Registers) (w : World) → w.ticks ≤ n → high ≤ s.above → end ≡ pc + 1 → slice_get code pc ≡ Some (i.get_field s to a b) → held_in r run.base a ≡ base → held_in r run.base b ≡ key
       → Goes P w.ticks frames run.base run.cell_base r (going P run pc frames w r) (single (field again here s.line base key) w) (λ vs t. Got r t run.base (run.cell_base + s.cells) high to (first vs) × LoneIf false vs) (λ vs w t. going P run end frames w t)
   field_goes x s a b base key pc end high to r w lw la e st ea eb =
       both P n w.ticks lw frames run.base run.cell_base r _ (field again here s.line base key w) _ _ (λ v w. gives (v ∷ []) w) _ _
@@ -104,7 +104,7 @@ module _ (game : Game) (n : ℕ) (again : Later) (invokes : Invokes game n again
       (does_goes game n again invokes run frames (field_doing w.store base key) s pc end high to r w lw la e)))
       (λ v w t lw t_stays g. (t, same game n again invokes w, stays_self t run.base run.cell_base, (g, refl), comes_self _))
 
-  name_goes : (o : Option Seat) (s : Option Slot) (line : ℕ) (x : Bytes) (pc end h to : ℕ) (scope : Scope) (r : Registers) (w : World) → w.ticks ≤ n → end ≡ pc + length (name_code (site line h scope) x to o) → Stands code pc (name_code (site line h scope) x to o) → Reads r run.base run.cell_base o s
+  pub name_goes : (o : Option Seat) (s : Option Slot) (line : ℕ) (x : Bytes) (pc end h to : ℕ) (scope : Scope) (r : Registers) (w : World) → w.ticks ≤ n → end ≡ pc + length (name_code (site line h scope) x to o) → Stands code pc (name_code (site line h scope) x to o) → Reads r run.base run.cell_base o s
       → Goes P w.ticks frames run.base run.cell_base r (going P run pc frames w r) (single (name_value again here line x s) w) (λ vs t. Got r t run.base (run.cell_base + cell_count scope) h to (first vs) × LoneIf false vs) (λ vs w t. going P run end frames w t)
   name_goes None None line x pc end h to scope r w lw e st rs = field_goes (i.get_field (site line h scope) to (constant globals) (constant (Value.str x))) (site line h scope) (constant globals) (constant (Value.str x)) globals (Value.str x) pc end h to r w lw (omega arith) e st.0 refl refl
   name_goes None (Some s) line x pc end h to scope r w lw e st rs = absurd rs
@@ -118,7 +118,7 @@ module _ (game : Game) (n : ℕ) (again : Later) (invokes : Invokes game n again
   -- ---- operands
 
   -- an expression whose value is wanted in the slot at the height
-  evaluated : (e : Expr) → Gets e → (pc end h : ℕ) (scope : Scope) (env : Env) (r : Registers) (w : World) → w.ticks ≤ n → slot_count scope ≤ h → end ≡ pc + length (expr_code e file scope h h) → Stands code pc (expr_code e file scope h h) → Holds r run.base run.cell_base scope env
+  pub evaluated : (e : Expr) → Gets e → (pc end h : ℕ) (scope : Scope) (env : Env) (r : Registers) (w : World) → w.ticks ≤ n → slot_count scope ≤ h → end ≡ pc + length (expr_code e file scope h h) → Stands code pc (expr_code e file scope h h) → Holds r run.base run.cell_base scope env
       → Goes P w.ticks frames run.base run.cell_base r (going P run pc frames w r) (one (eval again here e env) w) (λ v t. (t.slots (run.base + h) ≡ v) × Stays r t (run.base + h) (run.cell_base + cell_count scope)) (λ v w t. going P run end frames w t)
   evaluated e gets pc end h scope env r w lw lh ee st hs =
       both P n w.ticks lw frames run.base run.cell_base r _ (eval again here e env w) _ _ (λ vs w. gives (first vs) w) _ _ (gets pc end h h scope env r w lw lh ee st hs)

@@ -5,4 +5,5 @@ pub mod Calling
 pub mod Landing
 pub mod Closures
 pub mod Expressions
+pub mod Nodes
 pub mod of_rows
