@@ -6,4 +6,7 @@ pub mod Landing
 pub mod Closures
 pub mod Expressions
 pub mod Nodes
+pub mod Scopes
+pub mod Claims
+pub mod Statements
 pub mod of_rows
