@@ -23,7 +23,7 @@ use Rattle.lua_code.specs.Follows.{state_of, program_of, callee_of}
 use Rattle.lua_code.proofs.Registers.{Holds}
 use Rattle.lua_code.proofs.Goes.{Thread, Stands, stepping, going, left_at, Goes}
 use Rattle.lua_code.proofs.Landing.{here_of}
-use Rattle.lua_code.proofs.Scopes.{After}
+use Rattle.lua_code.proofs.Scopes.{After, Closed, Unmoved}
 
 -- where a flow comes to
 abbrev pub flow_at : Program → Running → (end exit : ℕ) → List Frame → Flow → World → Registers → Thread
@@ -85,17 +85,17 @@ module _ (game : Game) (n : ℕ) (again : Later) where
       → Goes P w.ticks frames base cell_base r (stepping P w (on (begun (callee_of callee) args frames base cell_base r (state_of w)))) (again (invoke callee args calls) w) (λ flow t. Unit {0}) (λ flow w t. left_at P frames (values_of flow) w t)
   Claim (while_turn here env e b) =
       (run : Running) (frames : List Frame) (scope : Scope) (pc end exit : ℕ) (r : Registers) (w : World) → here ≡ here_of run frames → suc w.ticks ≤ n → end ≡ pc + length (while_code e b (file_of run.code) scope) → Stands (code_of run.code) pc (while_code e b (file_of run.code) scope) → Holds r run.base run.cell_base scope env
-      → Goes P w.ticks frames run.base run.cell_base r (going P run (pc + length (while_body e b (file_of run.code) scope)) frames w r) (again (while_turn here env e b) w) (After run scope scope) (flow_at P run end exit frames)
+      → Goes P w.ticks frames run.base run.cell_base r (going P run (pc + length (while_body e b (file_of run.code) scope)) frames w r) (again (while_turn here env e b) w) (λ flow t. Closed run scope flow t × Unmoved r t run.base scope) (flow_at P run end exit frames)
   Claim (repeat_turn here env b e) =
       (run : Running) (frames : List Frame) (scope : Scope) (pc end exit : ℕ) (r : Registers) (w : World) → here ≡ here_of run frames → suc w.ticks ≤ n → end ≡ pc + length (repeat_code e b (file_of run.code) scope) → Stands (code_of run.code) pc (repeat_code e b (file_of run.code) scope) → Holds r run.base run.cell_base scope env
-      → Goes P w.ticks frames run.base run.cell_base r (stepping P w (ticking w.ticks (state_of w) (λ st. on (record { active = lua (at_pc run pc); frames = frames; registers = r; state = st })))) (again (repeat_turn here env b e) w) (After run scope scope) (flow_at P run end exit frames)
+      → Goes P w.ticks frames run.base run.cell_base r (stepping P w (ticking w.ticks (state_of w) (λ st. on (record { active = lua (at_pc run pc); frames = frames; registers = r; state = st })))) (again (repeat_turn here env b e) w) (λ flow t. Closed run scope flow t × Unmoved r t run.base scope) (flow_at P run end exit frames)
   Claim (count_turn here env x b v m k) =
       (run : Running) (frames : List Frame) (scope : Scope) (any pc end exit : ℕ) (r : Registers) (w : World) → here ≡ here_of run frames → suc w.ticks ≤ n → end ≡ pc + length (count_loop x b (file_of run.code) scope) → Stands (code_of run.code) pc (count_loop x b (file_of run.code) scope) → Holds r run.base run.cell_base scope env
-      → Goes P w.ticks frames run.base run.cell_base r (stepping P w (turns (at_pc run any) frames r (state_of w) (slot_count scope) pc end v m k)) (again (count_turn here env x b v m k) w) (After run scope scope) (flow_at P run end exit frames)
+      → Goes P w.ticks frames run.base run.cell_base r (stepping P w (turns (at_pc run any) frames r (state_of w) (slot_count scope) pc end v m k)) (again (count_turn here env x b v m k) w) (λ flow t. Closed run scope flow t × Unmoved r t run.base scope) (flow_at P run end exit frames)
   Claim (each_turn here env line xs b f s v) =
       (run : Running) (frames : List Frame) (scope : Scope) (pc end exit : ℕ) (r : Registers) (w : World) → here ≡ here_of run frames → suc w.ticks ≤ n → end ≡ pc + length (each_loop line xs b (file_of run.code) scope) → Stands (code_of run.code) pc (each_loop line xs b (file_of run.code) scope) → Holds r run.base run.cell_base scope env
       → (r.slots (run.base + slot_count scope) ≡ f) × (r.slots (run.base + slot_count scope + 1) ≡ s) × (r.slots (run.base + slot_count scope + 2) ≡ v)
-      → Goes P w.ticks frames run.base run.cell_base r (going P run (pc + length (each_turn_code line xs b (file_of run.code) scope)) frames w r) (again (each_turn here env line xs b f s v) w) (After run scope scope) (flow_at P run end exit frames)
+      → Goes P w.ticks frames run.base run.cell_base r (going P run (pc + length (each_turn_code line xs b (file_of run.code) scope)) frames w r) (again (each_turn here env line xs b f s v) w) (λ flow t. Closed run scope flow t × Unmoved r t run.base scope) (flow_at P run end exit frames)
   Claim clear_turn =
       (frames : List Frame) (base cell_base : ℕ) (r : Registers) (w : World) → suc w.ticks ≤ n
       → Goes P w.ticks frames base cell_base r (stepping P w (asks_for P base cell_base frames r clears Ask.event_poll (state_of w))) (again clear_turn w) (λ flow t. Unit {0}) (λ flow w t. left_at P frames (values_of flow) w t)
@@ -105,14 +105,14 @@ module _ (game : Game) (n : ℕ) (again : Later) where
     abbrev pub Does : Stat → Type 0
     Does s =
         (later : List Bytes) (pc end exit : ℕ) (scope : Scope) (env : Env) (r : Registers) (w : World) → suc w.ticks ≤ n → end ≡ pc + length (stat_code s later exit (file_of run.code) scope) → Stands (code_of run.code) pc (stat_code s later exit (file_of run.code) scope) → Holds r run.base run.cell_base scope env
-        → Goes P w.ticks frames run.base run.cell_base r (going P run pc frames w r) (exec again (here_of run frames) later s env w) (After run scope (scope_behind s later scope)) (flow_at P run end (end + exit) frames)
+        → Goes P w.ticks frames run.base run.cell_base r (going P run pc frames w r) (exec again (here_of run frames) later s env w) (λ flow t. After run scope (scope_behind s later scope) flow t × Unmoved r t run.base scope) (flow_at P run end (end + exit) frames)
 
     abbrev pub Runs : Block → Type 0
     Runs b =
         (after : List Bytes) (pc end exit : ℕ) (scope : Scope) (env : Env) (r : Registers) (w : World) → w.ticks ≤ n → end ≡ pc + length (block_code b after exit (file_of run.code) scope) → Stands (code_of run.code) pc (block_code b after exit (file_of run.code) scope) → Holds r run.base run.cell_base scope env
-        → Goes P w.ticks frames run.base run.cell_base r (going P run pc frames w r) (block again (here_of run frames) after b env w) (After run scope (scope_at_end b after scope)) (flow_at P run end (end + exit) frames)
+        → Goes P w.ticks frames run.base run.cell_base r (going P run pc frames w r) (block again (here_of run frames) after b env w) (λ flow t. After run scope (scope_at_end b after scope) flow t × Unmoved r t run.base scope) (flow_at P run end (end + exit) frames)
 
     abbrev pub Chooses : Arms → Type 0
     Chooses arms =
         (pc end exit : ℕ) (scope : Scope) (env : Env) (r : Registers) (w : World) → w.ticks ≤ n → end ≡ pc + length (arms_code arms exit (file_of run.code) scope) → Stands (code_of run.code) pc (arms_code arms exit (file_of run.code) scope) → Holds r run.base run.cell_base scope env
-        → Goes P w.ticks frames run.base run.cell_base r (going P run pc frames w r) (choose again (here_of run frames) arms env w) (After run scope scope) (flow_at P run end (end + exit) frames)
+        → Goes P w.ticks frames run.base run.cell_base r (going P run pc frames w r) (choose again (here_of run frames) arms env w) (λ flow t. Closed run scope flow t × Unmoved r t run.base scope) (flow_at P run end (end + exit) frames)

@@ -9,4 +9,6 @@ pub mod Nodes
 pub mod Scopes
 pub mod Claims
 pub mod Statements
+pub mod Loops
+pub mod Counting
 pub mod of_rows

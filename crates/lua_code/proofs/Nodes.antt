@@ -147,7 +147,7 @@ module _ (game : Game) (n : ℕ) (again : Later) (invokes : Invokes game n again
   raw_goes s t key v pc end u w e = (u, omega arith, stays_self u run.base run.cell_base, refl, goes_at P run frames (pc + 1) end (record w { store = raw_set w.store t key v }) u (sym e))
 
   -- what is known of what a part leaves may be less
-  weaken : {A : Type 0} (m : ℕ) (r : Registers) (K : Thread) (e : Ends A) (P1 Q : A → Registers → Type 0) (f : A → World → Registers → Thread) → ((a : A) (t : Registers) → P1 a t → Q a t) → Goes P m frames run.base run.cell_base r K e P1 f → Goes P m frames run.base run.cell_base r K e Q f
+  pub weaken : {A : Type 0} (m : ℕ) (r : Registers) (K : Thread) (e : Ends A) (P1 Q : A → Registers → Type 0) (f : A → World → Registers → Thread) → ((a : A) (t : Registers) → P1 a t → Q a t) → Goes P m frames run.base run.cell_base r K e P1 f → Goes P m frames run.base run.cell_base r K e Q f
   weaken m r K (gives a w) P1 Q f h g = (g.0, g.1, g.2, h a g.0 g.3, g.4)
   weaken m r K (fails v w) P1 Q f h g = g
   weaken m r K (out_of_steps w) P1 Q f h g = g
@@ -193,7 +193,7 @@ module _ (game : Game) (n : ℕ) (again : Later) (invokes : Invokes game n again
   operate_is BinOp.and_ line l r w p = absurd p
   operate_is op line l r w p = refl
 
-  single_on : {A B C : Type 0} (e : Ends A) (f : A → Act B) (g : B → Act C) → ((e >>> λ a w. f a w) >>> λ b w. g b w) ≡ (e >>> λ a w. f a w >>> λ b w. g b w)
+  pub single_on : {A B C : Type 0} (e : Ends A) (f : A → Act B) (g : B → Act C) → ((e >>> λ a w. f a w) >>> λ b w. g b w) ≡ (e >>> λ a w. f a w >>> λ b w. g b w)
   single_on (gives a w) f g = refl
   single_on (fails v w) f g = refl
   single_on (out_of_steps w) f g = refl
@@ -261,7 +261,7 @@ module _ (game : Game) (n : ℕ) (again : Later) (invokes : Invokes game n again
   gives_one (binary line op a b) env w h = one_single _
   gives_one (paren line a) env w h = one_single _
 
-  firsts_on : {B : Type 0} (e : Ends (List Value)) (g : Value → Act B) → ((e >>> λ vs w. gives (first vs) w) >>> λ v w. g v w) ≡ (e >>> λ vs w. g (first vs) w)
+  pub firsts_on : {B : Type 0} (e : Ends (List Value)) (g : Value → Act B) → ((e >>> λ vs w. gives (first vs) w) >>> λ v w. g v w) ≡ (e >>> λ vs w. g (first vs) w)
   firsts_on (gives vs w) g = refl
   firsts_on (fails v w) g = refl
   firsts_on (out_of_steps w) g = refl

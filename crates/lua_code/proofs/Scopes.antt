@@ -13,7 +13,7 @@ use Rattle.lua_code.proofs.Registers.{Below, below_self, below_values, put_same,
 
 -- ---- scopes grow in front
 
-declared_more : (xs captured : List Bytes) (scope : Scope) → (more : Scope) × (declared xs captured scope ≡ more ++ scope)
+pub declared_more : (xs captured : List Bytes) (scope : Scope) → (more : Scope) × (declared xs captured scope ≡ more ++ scope)
 declared_more [] captured scope = ([], refl)
 declared_more (x ∷ xs) captured scope =
     let k = kind_of (is_captured xs captured x) in
@@ -79,11 +79,47 @@ outer_holds more scope r t base cell_base before env hb h =
     let e : name_count more ≡ length env - length before = omega (arith, holds_count r base cell_base scope before hb, holds_count t base cell_base (more ++ scope) env h, count_more more scope) in
     subst (λ n. Holds t base cell_base scope (drop n env)) e (dropped more scope t base cell_base env h)
 
--- behind a block its locals are gone
-pub closed_after : (run : Running) (more scope inner : Scope) (r t : Registers) (before : Env) (flow : Flow) → inner ≡ more ++ scope → Holds r run.base run.cell_base scope before → After run scope inner flow t → After run scope scope (closed before flow) t
+-- What a block leaves when its own locals are gone.
+abbrev pub Closed : Running → Scope → Flow → Registers → Type 0
+Closed run scope (normal env) t = Holds t run.base run.cell_base scope env
+Closed run scope (broken env) t = Holds t run.base run.cell_base scope env
+Closed run scope (returned vs) t = Unit {0}
+
+pub closed_after : (run : Running) (more scope inner : Scope) (r t : Registers) (before : Env) (flow : Flow) → inner ≡ more ++ scope → Holds r run.base run.cell_base scope before → After run scope inner flow t → Closed run scope (closed before flow) t
 closed_after run more scope inner r t before (normal env) e hb h = outer_holds more scope r t run.base run.cell_base before env hb (subst (λ s. Holds t run.base run.cell_base s env) e h)
-closed_after run more scope inner r t before (broken env) e hb h = ([], outer_holds h.0 scope r t run.base run.cell_base before env hb h.1)
+closed_after run more scope inner r t before (broken env) e hb h = outer_holds h.0 scope r t run.base run.cell_base before env hb h.1
 closed_after run more scope inner r t before (returned vs) e hb h = tt
+
+pub after_closed : (run : Running) (scope : Scope) (flow : Flow) (t : Registers) → Closed run scope flow t → After run scope scope flow t
+after_closed run scope (normal env) t h = h
+after_closed run scope (broken env) t h = ([], h)
+after_closed run scope (returned vs) t h = tt
+
+-- the hidden slots of loops keep what they have
+abbrev pub Unmoved : (r t : Registers) → (base : ℕ) → Scope → Type 0
+Unmoved r t base [] = Unit {0}
+Unmoved r t base (hidden ∷ scope) = (t.slots (base + slot_count scope) ≡ r.slots (base + slot_count scope)) × Unmoved r t base scope
+Unmoved r t base (named x k ∷ scope) = Unmoved r t base scope
+
+pub unmoved_below : (r t : Registers) (base low : ℕ) (scope : Scope) → base + slot_count scope ≤ low → Below r.slots t.slots low → Unmoved r t base scope
+unmoved_below r t base low [] l x = tt
+unmoved_below r t base low (hidden ∷ scope) l x = (x (base + slot_count scope) (omega (arith, l)), unmoved_below r t base low scope (omega (arith, l)) x)
+unmoved_below r t base low (named y in_slot ∷ scope) l x = unmoved_below r t base low scope (omega (arith, l)) x
+unmoved_below r t base low (named y in_cell ∷ scope) l x = unmoved_below r t base low scope (omega (arith, l)) x
+unmoved_below r t base low (named y outside ∷ scope) l x = unmoved_below r t base low scope l x
+
+pub unmoved_self : (r : Registers) (base : ℕ) (scope : Scope) → Unmoved r r base scope
+unmoved_self r base scope = unmoved_below r r base (base + slot_count scope) scope (omega arith) (below_self r.slots (base + slot_count scope))
+
+pub unmoved_on : (r t u : Registers) (base : ℕ) (scope : Scope) → Unmoved r t base scope → Unmoved t u base scope → Unmoved r u base scope
+unmoved_on r t u base [] x y = tt
+unmoved_on r t u base (hidden ∷ scope) x y = (y.0 ∙ x.0, unmoved_on r t u base scope x.1 y.1)
+unmoved_on r t u base (named z k ∷ scope) x y = unmoved_on r t u base scope x y
+
+pub unmoved_outer : (r t : Registers) (base : ℕ) (more scope : Scope) → Unmoved r t base (more ++ scope) → Unmoved r t base scope
+unmoved_outer r t base [] scope x = x
+unmoved_outer r t base (hidden ∷ more) scope x = unmoved_outer r t base more scope x.1
+unmoved_outer r t base (named z k ∷ more) scope x = unmoved_outer r t base more scope x
 
 -- what holds behind a statement of the scope in front of it
 pub after_less : (run : Running) (more scope inner end : Scope) (flow : Flow) (t : Registers) → inner ≡ more ++ scope → After run inner end flow t → After run scope end flow t

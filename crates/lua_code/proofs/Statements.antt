@@ -22,13 +22,13 @@ use Rattle.lua_code.specs.Frames.{ticking}
 use Rattle.lua_code.specs.Natives.{Program}
 use Rattle.lua_code.specs.Act.{at_pc, act_on}
 use Rattle.lua_code.specs.Follows.{state_of, program_of}
-use Rattle.lua_code.proofs.Registers.{Below, below_put, Stays, stays_self, stays_on, stays_less, stays_values, put_same, Holds, holds_stays}
+use Rattle.lua_code.proofs.Registers.{Below, below_self, below_put, Stays, stays_self, stays_on, stays_less, stays_values, put_same, Holds, holds_stays}
 use Rattle.lua_code.proofs.Goes.{Thread, Comes, comes_self, comes_on, Stands, front, back, stepping, going, left_at, Goes, first_comes, first_stays, both, then_on, one_step, tick_goes}
 use Rattle.lua_code.proofs.Calling.{Invokes}
 use Rattle.lua_code.proofs.Landing.{here_of, goes_at}
 use Rattle.lua_code.proofs.Expressions.{listed}
-use Rattle.lua_code.proofs.Nodes.{exprs_goes}
-use Rattle.lua_code.proofs.Scopes.{After, after_less, closed_after, end_more, Rowed, rowed, rowed_all}
+use Rattle.lua_code.proofs.Nodes.{weaken, exprs_goes}
+use Rattle.lua_code.proofs.Scopes.{After, Closed, Unmoved, unmoved_outer, after_less, closed_after, end_more, Rowed, rowed, rowed_all}
 use Rattle.lua_code.proofs.Claims.{flow_at, turn_code, Runs}
 
 pub stays_cell : (r t : Registers) (low some k c : ℕ) → some ≤ k → Stays r t low some → Stays r (with_cells t (put t.cells k c)) low some
@@ -79,8 +79,8 @@ module _ (game : Game) (n : ℕ) (again : Later) (invokes : Invokes game n again
   -- ---- declarations
 
   one_declared : (b : Bool) (x : Bytes) (v : Value) (pc end : ℕ) (scope : Scope) (env : Env) (r : Registers) (w : World) → end ≡ pc + length (cell_code (kind_of b) scope) → Stands code pc (cell_code (kind_of b) scope) → Holds r run.base run.cell_base scope env → r.slots (run.base + slot_count scope) ≡ v
-      → Goes P w.ticks frames run.base run.cell_base r (going P run pc frames w r) (make_slot b v w) (λ s t. Holds t run.base run.cell_base (named x (kind_of b) ∷ scope) ((x, s) ∷ env) × (t.slots ≡ r.slots)) (λ s w t. going P run end frames w t)
-  one_declared false x v pc end scope env r w ee st hs v_is = (r, omega arith, stays_self r run.base run.cell_base, ((refl, v_is, hs), refl), goes_at P run frames pc end w r (omega (arith, ee)))
+      → Goes P w.ticks frames run.base run.cell_base r (going P run pc frames w r) (make_slot b v w) (λ s t. Holds t run.base run.cell_base (named x (kind_of b) ∷ scope) ((x, s) ∷ env) × (t.slots ≡ r.slots) × Below r.cells t.cells (run.cell_base + cell_count scope)) (λ s w t. going P run end frames w t)
+  one_declared false x v pc end scope env r w ee st hs v_is = (r, omega arith, stays_self r run.base run.cell_base, ((refl, v_is, hs), refl, below_self r.cells (run.cell_base + cell_count scope)), goes_at P run frames pc end w r (omega (arith, ee)))
   one_declared true x v pc end scope env r w ee st hs v_is =
       let c = length w.store.cells in
       let t = with_cells r (put r.cells (run.cell_base + cell_count scope) c) in
@@ -88,7 +88,7 @@ module _ (game : Game) (n : ℕ) (again : Later) (invokes : Invokes game n again
         t,
         omega arith,
         stays_cell r r run.base run.cell_base (run.cell_base + cell_count scope) c (omega arith) (stays_self r run.base run.cell_base),
-        ((refl, put_same r.cells (run.cell_base + cell_count scope) c, holds_stays r t run.base run.cell_base scope env (run.base + slot_count scope) (run.cell_base + cell_count scope) (omega arith) (omega arith) (stays_cell r r (run.base + slot_count scope) (run.cell_base + cell_count scope) (run.cell_base + cell_count scope) c (omega arith) (stays_self r (run.base + slot_count scope) (run.cell_base + cell_count scope))) hs), refl),
+        ((refl, put_same r.cells (run.cell_base + cell_count scope) c, holds_stays r t run.base run.cell_base scope env (run.base + slot_count scope) (run.cell_base + cell_count scope) (omega arith) (omega arith) (stays_cell r r (run.base + slot_count scope) (run.cell_base + cell_count scope) (run.cell_base + cell_count scope) c (omega arith) (stays_self r (run.base + slot_count scope) (run.cell_base + cell_count scope))) hs), refl, below_put r.cells r.cells (run.cell_base + cell_count scope) (run.cell_base + cell_count scope) c (omega arith) (below_self r.cells (run.cell_base + cell_count scope))),
         comes_on _ (going P run (pc + 1) frames w' t) _ (one_step P run pc frames r w (i.new_cell (cell_count scope) (slot_count scope)) _ st.0 (ap (λ v. on (record { active = lua (at_pc run (pc + 1)); frames = frames; registers = t; state = state_of (record w { store = add_cell w.store v }) })) v_is)) (goes_at P run frames (pc + 1) end w' t (sym ee)),
       )
 
@@ -96,9 +96,13 @@ module _ (game : Game) (n : ℕ) (again : Later) (invokes : Invokes game n again
   slots_one true x scope = refl
   slots_one false x scope = refl
 
+  cells_one : (b : Bool) (x : Bytes) (scope : Scope) → cell_count scope ≤ cell_count (named x (kind_of b) ∷ scope)
+  cells_one true x scope = omega arith
+  cells_one false x scope = omega arith
+
   pub declare_goes : (xs captured : List Bytes) (vs : List Value) (pc end : ℕ) (scope : Scope) (env : Env) (r : Registers) (w : World) → end ≡ pc + length (declare_code xs captured scope) → Stands code pc (declare_code xs captured scope) → Holds r run.base run.cell_base scope env → Rowed r.slots (run.base + slot_count scope) (length xs) vs
-      → Goes P w.ticks frames run.base run.cell_base r (going P run pc frames w r) (declare xs captured vs env w) (λ env' t. Holds t run.base run.cell_base (declared xs captured scope) env') (λ env' w t. going P run end frames w t)
-  declare_goes [] captured vs pc end scope env r w ee st hs rs = (r, omega arith, stays_self r run.base run.cell_base, hs, goes_at P run frames pc end w r (omega (arith, ee)))
+      → Goes P w.ticks frames run.base run.cell_base r (going P run pc frames w r) (declare xs captured vs env w) (λ env' t. Holds t run.base run.cell_base (declared xs captured scope) env' × (t.slots ≡ r.slots) × Below r.cells t.cells (run.cell_base + cell_count scope)) (λ env' w t. going P run end frames w t)
+  declare_goes [] captured vs pc end scope env r w ee st hs rs = (r, omega arith, stays_self r run.base run.cell_base, (hs, refl, below_self r.cells (run.cell_base + cell_count scope)), goes_at P run frames pc end w r (omega (arith, ee)))
   declare_goes (x ∷ xs) captured vs pc end scope env r w ee st hs rs =
       let b = is_captured xs captured x in
       let ys = cell_code (kind_of b) scope in
@@ -107,7 +111,8 @@ module _ (game : Game) (n : ℕ) (again : Later) (invokes : Invokes game n again
       let place_is : suc (run.base + slot_count scope) ≡ run.base + slot_count (named x (kind_of b) ∷ scope) = omega (arith, slots_one b x scope) in
       both P w.ticks w.ticks (omega arith) frames run.base run.cell_base r _ (make_slot b (first vs) w) _ _ (λ s w. declare xs captured (drop 1 vs) ((x, s) ∷ env) w) _ _ (one_declared b x (first vs) pc p1 scope env r w refl (front code pc ys zs st) hs rs.0)
       (λ s w t lw t_stays h.
-      declare_goes xs captured (drop 1 vs) p1 end (named x (kind_of b) ∷ scope) ((x, s) ∷ env) t w (omega (arith, ee, length-append ys zs)) (back code pc p1 ys zs refl st) h.0 (subst (λ k. Rowed t.slots k (length xs) (drop 1 vs)) place_is (subst (λ f. Rowed f (suc (run.base + slot_count scope)) (length xs) (drop 1 vs)) (sym h.1) rs.1)))
+      weaken game n again invokes run frames w.ticks t _ (declare xs captured (drop 1 vs) ((x, s) ∷ env) w) _ _ _ (λ env' u g. (g.0, g.1 ∙ h.1, λ k l. g.2 k (omega (arith, l, cells_one b x scope)) ∙ h.2 k l))
+      (declare_goes xs captured (drop 1 vs) p1 end (named x (kind_of b) ∷ scope) ((x, s) ∷ env) t w (omega (arith, ee, length-append ys zs)) (back code pc p1 ys zs refl st) h.0 (subst (λ k. Rowed t.slots k (length xs) (drop 1 vs)) place_is (subst (λ f. Rowed f (suc (run.base + slot_count scope)) (length xs) (drop 1 vs)) (sym h.1) rs.1))))
 
   -- ---- blocks in a scope of their own
 
@@ -117,10 +122,11 @@ module _ (game : Game) (n : ℕ) (again : Later) (invokes : Invokes game n again
   closed_at end exit before (returned vs) w t = comes_self _
 
   pub scoped_goes : (b : Block) → Runs game n again run frames b → (pc end exit : ℕ) (outer scope : Scope) (before env : Env) (more : Scope) (r : Registers) (w : World) → w.ticks ≤ n → scope ≡ more ++ outer → end ≡ pc + length (block_code b [] exit file scope) → Stands code pc (block_code b [] exit file scope) → Holds r run.base run.cell_base scope env → Holds r run.base run.cell_base outer before
-      → Goes P w.ticks frames run.base run.cell_base r (going P run pc frames w r) (block again here [] b env w >>> λ flow w. gives (closed before flow) w) (After run outer outer) (flow_at P run end (end + exit) frames)
+      → Goes P w.ticks frames run.base run.cell_base r (going P run pc frames w r) (block again here [] b env w >>> λ flow w. gives (closed before flow) w) (λ flow t. Closed run outer flow t × Unmoved r t run.base outer) (flow_at P run end (end + exit) frames)
   scoped_goes b runs pc end exit outer scope before env more r w lw se ee st hs ho =
       both P n w.ticks lw frames run.base run.cell_base r _ (block again here [] b env w) _ _ (λ flow w. gives (closed before flow) w) _ _ (runs [] pc end exit scope env r w lw ee st hs)
       (λ flow w t lw t_stays a.
       let em = end_more b [] scope in
       let e = em.1 ∙ ap (λ s. em.0 ++ s) se ∙ sym (append_assoc em.0 more outer) in
-      (t, omega arith, stays_self t run.base run.cell_base, closed_after run (em.0 ++ more) outer (scope_at_end b [] scope) r t before flow e ho (after_less run more outer scope (scope_at_end b [] scope) flow t se a), closed_at end (end + exit) before flow w t))
+      let same_outer : Unmoved r t run.base outer = unmoved_outer r t run.base more outer (subst (λ s. Unmoved r t run.base s) se a.1) in
+      (t, omega arith, stays_self t run.base run.cell_base, (closed_after run (em.0 ++ more) outer (scope_at_end b [] scope) r t before flow e ho (after_less run more outer scope (scope_at_end b [] scope) flow t se a.0), same_outer), closed_at end (end + exit) before flow w t))
