@@ -76,20 +76,20 @@ module _ (game : Game) (n : ℕ) (again : Later) (claim : (t : Task) → Claim g
       let end_is : end ≡ p + 1 = omega (arith, ee, length-append ts (ins ∷ [])) in
       let one : run.base + suc at ≡ run.base + (at + 1) = omega arith in
       let two : run.base + suc (suc at) ≡ run.base + (at + 2) = omega arith in
-      let tv : t.slots (run.base + at) ≡ num v = y.1.2.0 ∙ rv in
-      let tm : t.slots (run.base + (at + 1)) ≡ num m = ap t.slots (sym one) ∙ y.1.1 ∙ rm in
+      let tv : t.slots (run.base + at) ≡ num v = y.1.1.1.0 ∙ rv in
+      let tm : t.slots (run.base + (at + 1)) ≡ num m = ap t.slots (sym one) ∙ y.1.1.0 ∙ rm in
       let tk : t.slots (run.base + (at + 2)) ≡ num k = ap t.slots (sym two) ∙ y.1.0 ∙ rk in
       first_comes P w.ticks frames run.base run.cell_base t _ (stepping P w (counts (at_pc run p) frames t (state_of w) at (length ts) m k (arithmetic.add v k))) (counted again here env x b m k (arithmetic.add v k) w) _ _
       (one_step P run p frames t w ins _ st1.0
       (ap (λ a. counts_on (at_pc run p) frames t (state_of w) at (length ts) a (t.slots (run.base + (at + 1))) (t.slots (run.base + (at + 2)))) tv
       ∙ ap (λ a. counts_on (at_pc run p) frames t (state_of w) at (length ts) (num v) a (t.slots (run.base + (at + 2)))) tm
       ∙ ap (λ a. counts_on (at_pc run p) frames t (state_of w) at (length ts) (num v) (num m) a) tk))
-      (weaken game n again (invokes game n again claim) run frames w.ticks t _ (counted again here env x b m k (arithmetic.add v k) w) _ _ _ (λ flow u z. (z.0, unmoved_on r t u run.base scope y.1.3 z.1))
+      (weaken game n again (invokes game n again claim) run frames w.ticks t _ (counted again here env x b m k (arithmetic.add v k) w) _ _ _ (λ flow u z. (z.0, unmoved_on r t u run.base scope y.1.1.1.1 z.1))
       (counted_goes (arithmetic.add v k) x b env scope p pc end exit m k t w lw refl end_is ee st y.0))
   looped_count (broken env) x b scope pc end exit v m k r t w lw ee st rv rm rk y =
       let ts = turn_code (x ∷ []) b 1 file (numbers_in scope) in
-      (t, omega arith, stays_self t run.base run.cell_base, (y.0, y.1.3), goes_at P run frames (pc + length ts + 1) end w t (omega (arith, ee, length-append ts (i.for_next (slot_count scope) (length ts) ∷ []))))
-  looped_count (returned vs) x b scope pc end exit v m k r t w lw ee st rv rm rk y = (t, omega arith, stays_self t run.base run.cell_base, (tt, y.1.3), comes_self _)
+      (t, omega arith, stays_self t run.base run.cell_base, (y.0, y.1.1.1.1), goes_at P run frames (pc + length ts + 1) end w t (omega (arith, ee, length-append ts (i.for_next (slot_count scope) (length ts) ∷ []))))
+  looped_count (returned vs) x b scope pc end exit v m k r t w lw ee st rv rm rk y = (t, omega arith, stays_self t run.base run.cell_base, (tt, y.1.1.1.1), comes_self _)
 
   -- a turn begins, or the loop ends
   count_if : (c : Bool) (x : Bytes) (b : Block) → Runs game n again run frames b → (env : Env) (scope : Scope) (any pc end exit : ℕ) (v m k : ℤ) (r : Registers) (w : World) → w.ticks ≤ n → end ≡ pc + length (count_loop x b file scope) → Stands code pc (count_loop x b file scope) → Holds r run.base run.cell_base scope env

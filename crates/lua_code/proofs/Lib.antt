@@ -11,4 +11,7 @@ pub mod Claims
 pub mod Statements
 pub mod Loops
 pub mod Counting
+pub mod Writes
+pub mod Blocks
+pub mod Assigning
 pub mod of_rows

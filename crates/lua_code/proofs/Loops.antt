@@ -128,7 +128,7 @@ module _ (game : Game) (n : ℕ) (again : Later) (claim : (t : Task) → Claim g
     -- ---- repeat
 
     -- the test of a loop, which takes no ticks of its own
-    left_here : (e : Expr) (pc end : ℕ) (scope : Scope) (env : Env) (r : Registers) (w : World) → suc w.ticks ≤ n → end ≡ pc + length (test_code e file scope) → Stands code pc (test_code e file scope) → Holds r run.base run.cell_base scope env
+    pub left_here : (e : Expr) (pc end : ℕ) (scope : Scope) (env : Env) (r : Registers) (w : World) → suc w.ticks ≤ n → end ≡ pc + length (test_code e file scope) → Stands code pc (test_code e file scope) → Holds r run.base run.cell_base scope env
         → Goes P w.ticks frames run.base run.cell_base r (going P run pc frames w r) (one (eval again here e env) w) (λ v t. (t.slots (run.base + slot_place (ready_slot e scope) (slot_count scope)) ≡ v) × Stays r t (run.base + slot_count scope) (run.cell_base + cell_count scope)) (λ v w t. going P run end frames w t)
     left_here e pc end scope env r w lw ee st hs = left game n again invokes run frames e (expr_goes game n again invokes run frames e) pc end (slot_count scope) scope env r w (omega (arith, lw)) (omega arith) ee st hs
 

@@ -41,7 +41,7 @@ No false = Unit {0}
 not_both : false ≡ true → ⊥
 not_both e = subst No e tt
 
-list_is : (run : Running) (frames : List Frame) (r : Registers) (st : State) (from c : ℕ) (b : Bool) → list run frames r st from c b ≡ listed r (run.base + from) c b
+pub list_is : (run : Running) (frames : List Frame) (r : Registers) (st : State) (from c : ℕ) (b : Bool) → list run frames r st from c b ≡ listed r (run.base + from) c b
 list_is run frames r st from c true = refl
 list_is run frames r st from c false = refl
 
@@ -141,7 +141,7 @@ module _ (game : Game) (n : ℕ) (again : Later) (invokes : Invokes game n again
       (t, omega arith, stays_self t run.base run.cell_base, (ap (λ t. t.tail) x.2, subst (λ t. Stays r t (run.base + h) some) (sym x.2) (stays_tail r q (run.base + h) some vs stays_q)), goes_at P run frames (pc + 1) end w' t (sym ee)))
 
   -- a raw value of a table
-  raw_goes : (s : Site) (t : ℕ) (key v : Value) (pc end : ℕ) (u : Registers) (w : World) → end ≡ pc + 1
+  pub raw_goes : (s : Site) (t : ℕ) (key v : Value) (pc end : ℕ) (u : Registers) (w : World) → end ≡ pc + 1
       → Goes P w.ticks frames run.base run.cell_base u (stepping P w (sets_raw (at_pc run pc) frames u (state_of w) s t key v)) (set_raw again here s.line t key v w) (λ a q. q ≡ u) (λ a w q. going P run end frames w q)
   raw_goes s t Value.nil v pc end u w e = (u, omega arith, stays_self u run.base run.cell_base, comes_self _)
   raw_goes s t key v pc end u w e = (u, omega arith, stays_self u run.base run.cell_base, refl, goes_at P run frames (pc + 1) end (record w { store = raw_set w.store t key v }) u (sym e))
