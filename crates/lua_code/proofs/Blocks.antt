@@ -1,33 +1,35 @@
 -- Statements and blocks in the machine come to what they mean.
 use Rattle.std.proofs.Common.{ℕ, zero, suc, ◌+◌, ◌-◌, ◌≡◌, ◌≤◌, ◌<◌, refl, sym, ap, ◌∙◌, subst, List, [], ◌∷◌, ◌++◌, length, map, Option, Some, None, Bool, true, false, arith, slice_get, length-append, append_assoc, ℤ, pos}
 use Rattle.std.specs.Prelude.{if◌then◌else◌, codes, drop}
-use Rattle.lua_tree.specs.Tree.{Bytes, Expr, Exprs, Block, no_stats, stat_and, Stat, assign, local, call_stat, do_block, while_loop, repeat_loop, if_stat, num_for, num_for_by, gen_for, function_stat, local_function, return_stat, break_stat, Arms, no_else, else_block, arm_and, Func}
+use Rattle.lua_tree.specs.Tree.{Bytes, Expr, function, Exprs, Block, no_stats, stat_and, Stat, assign, local, call_stat, do_block, while_loop, repeat_loop, if_stat, num_for, num_for_by, gen_for, function_stat, local_function, return_stat, break_stat, Arms, no_else, else_block, arm_and, Func}
 use Rattle.lua_meaning.specs.Value.{Value, first, is_true, num}
 use Rattle.lua_meaning.specs.Text.{as_number}
-use Rattle.lua_meaning.specs.Names.{expr_names, captured_in, block_names, func_names}
+use Rattle.lua_meaning.specs.Names.{expr_names, captured_in, block_names, func_names, is_captured}
 use Rattle.lua_meaning.specs.World.{World, Ends, gives, fails, out_of_steps, needs, ◌>>>◌, ◌>>=◌, Act, give, one, take_tick, given}
-use Rattle.lua_meaning.specs.Locals.{Env, Flow, normal, broken, returned, declare, closed, go_on}
+use Rattle.lua_meaning.specs.Locals.{Env, Flow, normal, broken, returned, declare, make_slot, set_local, closed, go_on}
 use Rattle.lua_meaning.specs.Calls.{Later, Here, Task, while_turn, repeat_turn, count_turn}
 use Rattle.lua_meaning.specs.Control.{Game}
 use Rattle.lua_meaning.specs.Expressions.{eval, evals}
-use Rattle.lua_meaning.specs.Statements.{exec, block, choose, wants_number, for_numbers}
+use Rattle.lua_meaning.specs.Statements.{exec, block, choose, target, targets, assign_to, assign_all, wants_number, for_numbers}
 use Rattle.lua_code.specs.Instr as i
-use Rattle.lua_code.specs.Instr.{Instr, file_of, code_of, constant}
-use Rattle.lua_code.specs.Scope.{Scope, slot_count, cell_count, declared, declare_code}
-use Rattle.lua_code.specs.Code.{ready_slot, slot_place, site, fitted, tailed, count, skip_over, expr_code, exprs_code, block_code, stat_code, arms_code, scope_behind, scope_at_end, numbers_in, count_code}
+use Rattle.lua_code.specs.Instr.{Instr, file_of, code_of, slot, constant}
+use Rattle.lua_code.specs.Scope.{Kind, in_slot, in_cell, outside, Scope, named, kind_of, cell_code, seat_behind, seat_of, slot_count, cell_count, declared, declare_code}
+use Rattle.lua_code.specs.Code.{local_code, width, widths, target_count, store, stores, target_code, targets_code, ready_slot, slot_place, site, fitted, tailed, count, skip_over, expr_code, exprs_code, block_code, stat_code, arms_code, scope_behind, scope_at_end, numbers_in, count_code}
 use Rattle.lua_code.specs.State.{Registers, put_slot, State, Running, Frame, lua, Step, on}
 use Rattle.lua_code.specs.Frames.{finish, ticking}
 use Rattle.lua_code.specs.Natives.{Program}
 use Rattle.lua_code.specs.Act.{at_pc, list, begins, turns}
 use Rattle.lua_code.specs.Follows.{state_of, program_of}
-use Rattle.lua_code.proofs.Registers.{Stays, stays_self, stays_on, stays_less, stays_put, put_same, Holds, holds_stays}
+use Rattle.lua_code.proofs.Registers.{differs, Stays, stays_self, stays_on, stays_less, stays_put, put_same, Holds, holds_stays}
 use Rattle.lua_code.proofs.Goes.{Thread, Comes, comes_self, comes_on, Stands, front, back, stepping, going, left_at, Goes, first_comes, first_stays, both, then_on, one_step, tick_goes}
 use Rattle.lua_code.proofs.Calling.{Invokes, if_goes}
-use Rattle.lua_code.proofs.Landing.{here_of, Got, got_stays, lands, goes_at}
+use Rattle.lua_code.proofs.Landing.{here_of, Got, got_stays, lands, LoneIf, goes_at}
 use Rattle.lua_code.proofs.Expressions.{left, evaluated, listed}
 use Rattle.lua_code.proofs.Nodes.{weaken, list_is, single_on, expr_goes, exprs_goes}
 use Rattle.lua_code.proofs.Scopes.{After, Closed, Unmoved, unmoved_below, unmoved_self, unmoved_on, unmoved_outer, after_closed, after_less, behind_more, end_more, Rowed}
-use Rattle.lua_code.proofs.Statements.{values_goes, declare_goes, scoped_goes}
+use Rattle.lua_code.proofs.LocalFunctions.{seat_is, placed}
+use Rattle.lua_code.proofs.Assigning.{target_goes, target_stored, targets_goes, stores_goes, fits_stays, all_stay}
+use Rattle.lua_code.proofs.Statements.{values_goes, one_declared, slots_one, cells_one, declare_goes, scoped_goes}
 use Rattle.lua_code.proofs.Claims.{flow_at, test_code, while_body, while_code, repeat_code, turn_code, count_loop, Claim, Does, Runs, Chooses}
 use Rattle.lua_code.proofs.Loops.{invokes, Leaves, while_goes, repeat_goes, left_here}
 
@@ -252,3 +254,147 @@ module _ (game : Game) (n : ℕ) (again : Later) (claim : (t : Task) → Claim g
       weaken game n again inv run frames w3.ticks q _ (for_numbers again here line env x b va vc vd w3) _ _ _ (λ flow z y. (after_closed run scope flow z y.0, unmoved_on r q z run.base scope (unmoved_below r q run.base (run.base + h) scope (omega arith) st_rq.slots) y.1))
       (numbers_goes line x b scope env va vc vd p3 end (end + exit) q w3 (omega (arith, lw, l1, l2, l3)) (omega (arith, ee, length-append xs (ys ++ (zs ++ loop)), length-append ys (zs ++ loop), length-append zs loop)) st3 (holds_stays r q run.base run.cell_base scope env (run.base + h) some (omega arith) (omega arith) st_rq hs)
       (d_is.1.slots (run.base + h) (omega arith) ∙ c_is.1.slots (run.base + h) (omega arith) ∙ a_is.0) (d_is.1.slots (run.base + (h + 1)) (omega arith) ∙ c_is.0) d_is.0))))
+
+  -- ---- assignments
+
+  assign_goes : (line : ℕ) (ts es : Exprs) → Does game n again run frames (assign line ts es)
+  assign_goes line ts es later pc end exit scope env r w lw ee st hs =
+      let at = slot_count scope in
+      let from = at + widths ts in
+      let some = run.cell_base + cell_count scope in
+      let above = from + target_count ts in
+      let xs = targets_code ts file scope at in
+      let vc = exprs_code es file scope from in
+      let fit = fitted from (target_count ts) (count es) (tailed es) in
+      let ys = stores ts above scope at from in
+      let p1 = pc + length xs in
+      let p2 = p1 + length (vc ++ fit) in
+      let st1 : Stands code p1 ((vc ++ fit) ++ ys) = subst (λ l. Stands code p1 l) (sym (append_assoc vc fit ys)) (back code pc p1 xs _ refl st) in
+      both P n w.ticks (omega (arith, lw)) frames run.base run.cell_base r _ (targets again here ts env w) _ _ (λ parts w. evals again here es env w >>> λ vs w. assign_all again here parts vs env w >>> λ env w. gives (normal env) w) _ _ (targets_goes game n again inv run frames ts pc p1 at scope env r w (omega (arith, lw)) (omega arith) refl (front code pc xs _ st) hs)
+      (λ parts w t l1 t_stays f.
+      let hs_t = holds_stays r t run.base run.cell_base scope env (run.base + at) some (omega arith) (omega arith) f.1 hs in
+      both P n w.ticks l1 frames run.base run.cell_base t _ (evals again here es env w) _ _ (λ vs w. assign_all again here parts vs env w >>> λ env w. gives (normal env) w) _ _ (values_goes game n again inv run frames es (target_count ts) p1 p2 from scope env t w l1 (omega arith) refl (front code p1 (vc ++ fit) ys st1) hs_t)
+      (λ vs w u l2 u_stays v_is.
+      both P n w.ticks l2 frames run.base run.cell_base u _ (assign_all again here parts vs env w) _ _ (λ env w. gives (normal env) w) _ _
+      (stores_goes game n again inv run frames ts parts vs at from above scope env p2 end u w l2 (omega arith) (omega arith) (omega arith) (omega arith) (omega (arith, ee, length-append xs (vc ++ (fit ++ ys)), length-append vc (fit ++ ys), length-append fit ys, length-append vc fit)) (back code p1 p2 (vc ++ fit) ys refl st1) (holds_stays t u run.base run.cell_base scope env (run.base + from) some (omega arith) (omega arith) v_is.1 hs_t)
+      (all_stay game n again inv run frames ts parts scope at t u (λ k a b. v_is.1.slots (run.base + k) (omega (arith, b))) f.0) v_is.0)
+      (λ env' w z l3 z_stays kept.
+      let st_u : Unmoved r u run.base scope = unmoved_below r u run.base (run.base + at) scope (omega arith) (λ k l. v_is.1.slots k (omega (arith, l)) ∙ f.1.slots k l) in
+      (z, omega arith, stays_self z run.base run.cell_base, (kept.holds, unmoved_on r u z run.base scope st_u kept.unmoved), comes_self _))))
+
+  function_goes : (line : ℕ) (e : Expr) (f : Func) → Does game n again run frames (function_stat line e f)
+  function_goes line e f later pc end exit scope env r w lw ee st hs =
+      let at = slot_count scope in
+      let from = at + width e in
+      let some = run.cell_base + cell_count scope in
+      let xs = target_code e file scope at in
+      let cs = expr_code (function line f) file scope from from in
+      let ys = store e (from + 1) scope (slot at) (slot (at + 1)) (slot from) in
+      let p1 = pc + length xs in
+      let st1 = back code pc p1 xs _ refl st in
+      both P n w.ticks (omega (arith, lw)) frames run.base run.cell_base r _ (target again here e env w) _ _ (λ part w. one (eval again here (function line f) env) w >>> λ v w. assign_to again here part v env w >>> λ env w. gives (normal env) w) _ _ (target_goes game n again inv run frames e pc p1 at scope env r w (omega (arith, lw)) (omega arith) refl (front code pc xs _ st) hs)
+      (λ part w t l1 t_stays fit.
+      let hs_t = holds_stays r t run.base run.cell_base scope env (run.base + at) some (omega arith) (omega arith) fit.1 hs in
+      both P n w.ticks l1 frames run.base run.cell_base t _ (one (eval again here (function line f) env) w) (λ v q. (q.slots (run.base + from) ≡ v) × Stays t q (run.base + from) some) (λ v w q. going P run (p1 + 1) frames w q) (λ v w. assign_to again here part v env w >>> λ env w. gives (normal env) w) _ _ (evaluated game n again inv run frames (function line f) (expr_goes game n again inv run frames (function line f)) p1 (p1 + 1) from scope env t w l1 (omega arith) refl (front code p1 cs ys st1) hs_t)
+      (λ v w u l2 u_stays v_is.
+      both P n w.ticks l2 frames run.base run.cell_base u _ (assign_to again here part v env w) _ _ (λ env w. gives (normal env) w) _ _
+      (target_stored game n again inv run frames e part v at from (from + 1) scope env (p1 + 1) end u w l2 (omega arith) (omega (arith, ee, length-append xs (cs ++ ys), length-append cs ys)) (back code p1 (p1 + 1) cs ys refl st1) (holds_stays t u run.base run.cell_base scope env (run.base + from) some (omega arith) (omega arith) v_is.1 hs_t)
+      (fits_stays game n again inv run frames e part scope at t u (λ k a b. v_is.1.slots (run.base + k) (omega (arith, b))) fit.0) v_is.0)
+      (λ env' w z l3 z_stays kept.
+      let st_u : Unmoved r u run.base scope = unmoved_below r u run.base (run.base + at) scope (omega arith) (λ k l. v_is.1.slots k (omega (arith, l)) ∙ fit.1.slots k l) in
+      (z, omega arith, stays_self z run.base run.cell_base, (kept.holds, unmoved_on r u z run.base scope st_u kept.unmoved), comes_self _))))
+
+  -- ---- local functions
+
+  kind_not : (b : Bool) → kind_of b ≡ outside → ⊥
+  kind_not true e = subst NotOutside (sym e) tt
+    where
+      NotOutside : Kind → Type 0
+      NotOutside in_slot = ⊥
+      NotOutside in_cell = ⊥
+      NotOutside outside = Unit {0}
+  kind_not false e = subst NotOutside (sym e) tt
+    where
+      NotOutside : Kind → Type 0
+      NotOutside in_slot = ⊥
+      NotOutside in_cell = ⊥
+      NotOutside outside = Unit {0}
+
+  local_function_goes : (line : ℕ) (x : Bytes) (f : Func) → Does game n again run frames (local_function line x f)
+  local_function_goes line x f later pc end exit scope env r w lw ee st hs =
+      let at = slot_count scope in
+      let captured = func_names f ++ later in
+      let b = is_captured [] captured x in
+      let k = kind_of b in
+      let inner = named x k ∷ scope in
+      let some = run.cell_base + cell_count inner in
+      let ds = declare_code (x ∷ []) captured scope in
+      let cs = expr_code (function line f) file inner (suc at) at in
+      let ls = local_code (seat_of inner x) at in
+      let r0 = put_slot r (run.base + at) Value.nil in
+      let st0 : Stays r r0 (run.base + at) (run.cell_base + cell_count scope) = stays_put r r (run.base + at) (run.cell_base + cell_count scope) (run.base + at) Value.nil (omega arith) (stays_self r (run.base + at) (run.cell_base + cell_count scope)) in
+      let hs0 = holds_stays r r0 run.base run.cell_base scope env (run.base + at) (run.cell_base + cell_count scope) (omega arith) (omega arith) st0 hs in
+      let p1 = pc + 1 + length ds in
+      let st1 = back code (pc + 1) p1 ds _ refl st.1 in
+      let ls_is : length ls ≡ length (local_code (Some (seat_behind k scope)) at) = ap (λ o. length (local_code o at)) (seat_is x k scope) in
+      first_stays P w.ticks frames run.base run.cell_base r r0 _ (exec again here later (local_function line x f) env w) _ _ (stays_put r r run.base run.cell_base (run.base + at) Value.nil (omega arith) (stays_self r run.base run.cell_base))
+      (first_comes P w.ticks frames run.base run.cell_base r0 _ (going P run (pc + 1) frames w r0) (exec again here later (local_function line x f) env w) _ _ (one_step P run pc frames r w (i.load at (constant Value.nil)) _ st.0 refl)
+      (subst (λ e. Goes P w.ticks frames run.base run.cell_base r0 (going P run (pc + 1) frames w r0) e (Ran scope inner r) (flow_at P run end (end + exit) frames)) (sym (single_on game n again inv run frames (make_slot b Value.nil w) (λ s w. gives ((x, s) ∷ env) w) (λ env1 w. one (eval again here (function line f) env1) w >>> λ v w. set_local x v env1 w >>> λ env2 w. gives (normal env2) w)))
+      (both P n w.ticks (omega (arith, lw)) frames run.base run.cell_base r0 _ (make_slot b Value.nil w) _ _ (λ s w. one (eval again here (function line f) ((x, s) ∷ env)) w >>> λ v w. set_local x v ((x, s) ∷ env) w >>> λ env2 w. gives (normal env2) w) _ _
+      (one_declared game n again inv run frames b x Value.nil (pc + 1) p1 scope env r0 w (omega (arith, length-append (cell_code k scope) [])) (front code (pc + 1) (cell_code k scope) [] (front code (pc + 1) ds _ st.1)) hs0 (put_same r.slots (run.base + at) Value.nil))
+      (λ s w t l1 t_stays h.
+      let env1 = (x, s) ∷ env in
+      let st_t : Stays r0 t (run.base + at) (run.cell_base + cell_count scope) = record { slots = λ j l. ap (λ q. q j) h.1; cells = h.2 } in
+      let hs_t = holds_stays r0 t run.base run.cell_base scope env (run.base + at) (run.cell_base + cell_count scope) (omega arith) (omega arith) st_t hs0 in
+      both P n w.ticks l1 frames run.base run.cell_base t _ (one (eval again here (function line f) env1) w) (λ v u. Got t u run.base some (suc at) at v) (λ v w u. going P run (p1 + 1) frames w u) (λ v w. set_local x v env1 w >>> λ env2 w. gives (normal env2) w) _ _
+      (both P n w.ticks l1 frames run.base run.cell_base t _ (eval again here (function line f) env1 w) (λ vs u. Got t u run.base some (suc at) at (first vs) × LoneIf false vs) (λ vs w u. going P run (p1 + 1) frames w u) (λ vs w. gives (first vs) w) (λ v u. Got t u run.base some (suc at) at v) (λ v w u. going P run (p1 + 1) frames w u) (expr_goes game n again inv run frames (function line f) p1 (p1 + 1) (suc at) at inner env1 t w l1 (omega (arith, slots_one game n again inv run frames b x scope)) refl (front code p1 cs ls st1) h.0)
+      (λ vs w u l2 u_stays g. (u, omega arith, stays_self u run.base run.cell_base, g.0, comes_self _)))
+      (λ v w u l2 u_stays g.
+      let st_u : Stays t u (run.base + at) (run.cell_base + cell_count scope) = record { slots = λ j l. g.others j (omega (arith, l)) (differs j (run.base + at) l); cells = λ j l. g.cells j (omega (arith, l, cells_one game n again inv run frames b x scope)) } in
+      both P n w.ticks l2 frames run.base run.cell_base u _ (set_local x v env1 w) _ _ (λ env2 w. gives (normal env2) w) _ _
+      (placed game n again inv run frames k s x v scope env (p1 + 1) end t u w (omega (arith, ee, length-append ds (cs ++ ls), length-append cs ls, ls_is)) (subst (λ o. Stands code (p1 + 1) (local_code o at)) (seat_is x k scope) (back code p1 (p1 + 1) cs ls refl st1)) h.0.1 hs_t g (kind_not b))
+      (λ env2 w z l3 z_stays y.
+      (z, omega arith, stays_self z run.base run.cell_base, (y.0, unmoved_below r z run.base (run.base + at) scope (omega arith) (λ j l. ap (λ q. q j) y.1 ∙ st_u.slots j l ∙ st_t.slots j l ∙ st0.slots j l)), comes_self _)))))))
+
+  -- a generic loop
+  each_stat : (line : ℕ) (xs : List Bytes) (es : Exprs) (b : Block) → Does game n again run frames (gen_for line xs es b)
+  each_stat line xs es b = ?
+
+  -- ---- all statements
+
+  mutual
+    pub stat_goes : (s : Stat) → Does game n again run frames s
+    stat_goes (assign line ts es) = assign_goes line ts es
+    stat_goes (local line xs es) = local_goes line xs es
+    stat_goes (call_stat line e) = call_goes line e
+    stat_goes (do_block line b) = do_goes line b (block_goes b)
+    stat_goes (while_loop line e b) = while_stat line e b
+    stat_goes (repeat_loop line b e) = repeat_stat line b e
+    stat_goes (if_stat line arms) = λ later pc end exit scope env r w lw ee st hs. weaken game n again inv run frames w.ticks r _ (choose again here arms env w) _ _ _ (λ flow t x. (after_closed run scope flow t x.0, x.1)) (arms_goes arms pc end exit scope env r w (omega (arith, lw)) ee st hs)
+    stat_goes (num_for line x a c b) = num_for_goes line x a c b
+    stat_goes (num_for_by line x a c d b) = num_for_by_goes line x a c d b
+    stat_goes (gen_for line xs es b) = each_stat line xs es b
+    stat_goes (function_stat line e f) = function_goes line e f
+    stat_goes (local_function line x f) = local_function_goes line x f
+    stat_goes (return_stat line es) = return_goes line es
+    stat_goes (break_stat line) = break_goes line
+
+    pub block_goes : (b : Block) → Runs game n again run frames b
+    block_goes no_stats = λ after pc end exit scope env r w lw ee st hs. (r, omega arith, stays_self r run.base run.cell_base, (hs, unmoved_self r run.base scope), goes_at P run frames pc end w r (omega (arith, ee)))
+    block_goes (stat_and s b) = λ after pc end exit scope env r w lw ee st hs.
+        let later = block_names false b after in
+        let inner = scope_behind s later scope in
+        let rest = block_code b after exit file inner in
+        let ss = stat_code s later (length rest + exit) file scope in
+        let p1 = pc + 1 + length ss in
+        let more = behind_more s later scope in
+        first_comes P w.ticks frames run.base run.cell_base r _ (stepping P w (ticking w.ticks (state_of w) (λ st. on (record { active = lua (at_pc run (pc + 1)); frames = frames; registers = r; state = st })))) (take_tick w.ticks w >>> λ a w. exec again here later s env w >>> λ flow w. go_on flow (λ env. block again here after b env) w) _ _ (one_step P run pc frames r w i.tick _ st.0 refl)
+        (tick_goes P w.ticks w.ticks frames run.base run.cell_base r w _ _ _ _ (omega arith) (λ w' lt.
+        both P w'.ticks w'.ticks (omega arith) frames run.base run.cell_base r _ (exec again here later s env w') _ _ (λ flow w. go_on flow (λ env. block again here after b env) w) _ _ (stat_goes s later (pc + 1) p1 (length rest + exit) scope env r w' (omega (arith, lt, lw)) refl (front code (pc + 1) ss rest st.1) hs)
+        (λ flow w1 t l1 t_stays x.
+        go_on_goes flow s b after (block_goes b) p1 end exit scope inner more.0 r t w1 (omega (arith, l1, lt, lw)) more.1 (omega (arith, ee, length-append ss rest)) (back code (pc + 1) p1 ss rest refl st.1) x)) refl)
+
+    pub arms_goes : (arms : Arms) → Chooses game n again run frames arms
+    arms_goes no_else = λ pc end exit scope env r w lw ee st hs. (r, omega arith, stays_self r run.base run.cell_base, (hs, unmoved_self r run.base scope), goes_at P run frames pc end w r (omega (arith, ee)))
+    arms_goes (else_block b) = λ pc end exit scope env r w lw ee st hs. scoped_goes game n again inv run frames b (block_goes b) pc end exit scope scope env env [] r w lw refl ee st hs hs
+    arms_goes (arm_and e b arms) = arm_goes e b arms (block_goes b) (arms_goes arms)

@@ -12,6 +12,7 @@ pub mod Statements
 pub mod Loops
 pub mod Counting
 pub mod Writes
-pub mod Blocks
 pub mod Assigning
+pub mod LocalFunctions
+pub mod Blocks
 pub mod of_rows

@@ -78,7 +78,7 @@ module _ (game : Game) (n : ℕ) (again : Later) (invokes : Invokes game n again
 
   -- ---- declarations
 
-  one_declared : (b : Bool) (x : Bytes) (v : Value) (pc end : ℕ) (scope : Scope) (env : Env) (r : Registers) (w : World) → end ≡ pc + length (cell_code (kind_of b) scope) → Stands code pc (cell_code (kind_of b) scope) → Holds r run.base run.cell_base scope env → r.slots (run.base + slot_count scope) ≡ v
+  pub one_declared : (b : Bool) (x : Bytes) (v : Value) (pc end : ℕ) (scope : Scope) (env : Env) (r : Registers) (w : World) → end ≡ pc + length (cell_code (kind_of b) scope) → Stands code pc (cell_code (kind_of b) scope) → Holds r run.base run.cell_base scope env → r.slots (run.base + slot_count scope) ≡ v
       → Goes P w.ticks frames run.base run.cell_base r (going P run pc frames w r) (make_slot b v w) (λ s t. Holds t run.base run.cell_base (named x (kind_of b) ∷ scope) ((x, s) ∷ env) × (t.slots ≡ r.slots) × Below r.cells t.cells (run.cell_base + cell_count scope)) (λ s w t. going P run end frames w t)
   one_declared false x v pc end scope env r w ee st hs v_is = (r, omega arith, stays_self r run.base run.cell_base, ((refl, v_is, hs), refl, below_self r.cells (run.cell_base + cell_count scope)), goes_at P run frames pc end w r (omega (arith, ee)))
   one_declared true x v pc end scope env r w ee st hs v_is =
@@ -92,11 +92,11 @@ module _ (game : Game) (n : ℕ) (again : Later) (invokes : Invokes game n again
         comes_on _ (going P run (pc + 1) frames w' t) _ (one_step P run pc frames r w (i.new_cell (cell_count scope) (slot_count scope)) _ st.0 (ap (λ v. on (record { active = lua (at_pc run (pc + 1)); frames = frames; registers = t; state = state_of (record w { store = add_cell w.store v }) })) v_is)) (goes_at P run frames (pc + 1) end w' t (sym ee)),
       )
 
-  slots_one : (b : Bool) (x : Bytes) (scope : Scope) → slot_count (named x (kind_of b) ∷ scope) ≡ suc (slot_count scope)
+  pub slots_one : (b : Bool) (x : Bytes) (scope : Scope) → slot_count (named x (kind_of b) ∷ scope) ≡ suc (slot_count scope)
   slots_one true x scope = refl
   slots_one false x scope = refl
 
-  cells_one : (b : Bool) (x : Bytes) (scope : Scope) → cell_count scope ≤ cell_count (named x (kind_of b) ∷ scope)
+  pub cells_one : (b : Bool) (x : Bytes) (scope : Scope) → cell_count scope ≤ cell_count (named x (kind_of b) ∷ scope)
   cells_one true x scope = omega arith
   cells_one false x scope = omega arith
 
