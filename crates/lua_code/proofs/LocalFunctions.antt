@@ -58,13 +58,13 @@ module _ (game : Game) (n : ℕ) (again : Later) (invokes : Invokes game n again
   -- the function that stands in the local's slot becomes the local's value
   pub placed : (k : Kind) (s : Slot) (x : Bytes) (v : Value) (scope : Scope) (env : Env) (pc end : ℕ) (t u : Registers) (w : World) → end ≡ pc + length (local_code (Some (seat_behind k scope)) (slot_count scope)) → Stands code pc (local_code (Some (seat_behind k scope)) (slot_count scope)) → At t run.base run.cell_base k scope s → Holds t run.base run.cell_base scope env → Got t u run.base (run.cell_base + cell_count (named x k ∷ scope)) (suc (slot_count scope)) (slot_count scope) v → (k ≡ outside → ⊥)
       → Goes P w.ticks frames run.base run.cell_base u (going P run pc frames w u) (set_local x v ((x, s) ∷ env) w) (λ env' z. Holds z run.base run.cell_base (named x k ∷ scope) env' × (z.slots ≡ u.slots)) (λ env' w z. going P run end frames w z)
-  placed in_slot (held u0) x v scope env pc end t u w ee st a hs g no =
+  placed in_slot (held u0) x v scope env pc end t u w ee st a hs g away =
       let st_u : Stays t u (run.base + slot_count scope) (run.cell_base + cell_count scope) = record { slots = λ k l. g.others k (omega (arith, l)) (differs k (run.base + slot_count scope) l); cells = g.cells } in
       subst (λ e. Goes P w.ticks frames run.base run.cell_base u (going P run pc frames w u) e (λ env' z. Holds z run.base run.cell_base (named x in_slot ∷ scope) env' × (z.slots ≡ u.slots)) (λ env' w z. going P run end frames w z)) (sym (set_held x u0 v env w))
       (u, omega arith, stays_self u run.base run.cell_base, ((refl, g.value, holds_stays t u run.base run.cell_base scope env (run.base + slot_count scope) (run.cell_base + cell_count scope) (omega arith) (omega arith) st_u hs), refl), goes_at P run frames pc end w u (omega (arith, ee)))
-  placed in_slot (cell c) x v scope env pc end t u w ee st a hs g no = absurd a
-  placed in_cell (held u0) x v scope env pc end t u w ee st a hs g no = absurd a
-  placed in_cell (cell c) x v scope env pc end t u w ee st a hs g no =
+  placed in_slot (cell c) x v scope env pc end t u w ee st a hs g away = absurd a
+  placed in_cell (held u0) x v scope env pc end t u w ee st a hs g away = absurd a
+  placed in_cell (cell c) x v scope env pc end t u w ee st a hs g away =
       let st_u : Stays t u (run.base + slot_count scope) (run.cell_base + cell_count scope) = record { slots = λ k l. g.others k (omega (arith, l)) (differs k (run.base + slot_count scope) l); cells = λ k l. g.cells k (omega (arith, l)) } in
       let c_is : u.cells (run.cell_base + cell_count scope) ≡ c = g.cells (run.cell_base + cell_count scope) (omega arith) ∙ a in
       let w' : World = record w { store = set_cell w.store c v } in
@@ -73,4 +73,4 @@ module _ (game : Game) (n : ℕ) (again : Later) (invokes : Invokes game n again
       comes_on _ (going P run (pc + 1) frames w' u) _ (one_step P run pc frames u w (i.set_cell (cell_count scope) (slot (slot_count scope))) _ st.0
       (ap (λ c. on (record { active = lua (at_pc run (pc + 1)); frames = frames; registers = u; state = state_of (record w { store = set_cell w.store c (u.slots (run.base + slot_count scope)) }) })) c_is
       ∙ ap (λ v. on (record { active = lua (at_pc run (pc + 1)); frames = frames; registers = u; state = state_of (record w { store = set_cell w.store c v }) })) g.value)) (goes_at P run frames (pc + 1) end w' u (sym ee)))
-  placed outside s x v scope env pc end t u w ee st a hs g no = absurd (no refl)
+  placed outside s x v scope env pc end t u w ee st a hs g away = absurd (away refl)
