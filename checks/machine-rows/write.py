@@ -30,16 +30,29 @@ def rows(name):
             others = [x.strip() for x in found[1].split(",") if x.strip() != "Comes"]
             if others:
                 uses.append(f"use Rattle.lua_meaning.specs.rows.Comes.{{{', '.join(others)}}}")
-        elif line.startswith("use ") and not needless(line, claims):
-            uses.append(line)
-    uses.append(f"use Rattle.lua_meaning.specs.rows.{name}.{{{', '.join(programs)}}}")
+        elif line.startswith("use "):
+            uses += needed(line, claims)
+    uses += needed(f"use Rattle.lua_meaning.specs.rows.{name}.{{{', '.join(programs)}}}", claims)
     uses.append("use Rattle.lua_code.specs.rows.Comes.{Comes}")
     return f"{title}. Written by checks/machine-rows/write.py.\n" + "\n".join(uses) + "\n\n" + claims
 
 
-def needless(line, claims):
-    """Whether an import brings only what the programs name."""
-    return "lua_tree.specs.Tree" in line
+def needed(line, claims):
+    """An import with the names alone that the claims have."""
+    if "lua_tree.specs.Tree" in line:
+        return []
+    found = re.match(r"(use .*\.)\{(.*)\}", line)
+    if not found:
+        return [line] if f"{line.split()[-1]}." in claims else []
+    names = [x.strip() for x in found[2].split(",")]
+    kept = [x for x in names if re.search(word(x), claims)]
+    return [f"{found[1]}{{{', '.join(kept)}}}"] if kept else []
+
+
+def word(name):
+    """How a name is found in a text: an operator by what stands between its operands."""
+    parts = [p for p in name.split("◌") if p]
+    return "|".join(re.escape(p) for p in parts) if "◌" in name else rf"(?<!\w){re.escape(name)}(?!\w)"
 
 
 def proofs(name):

@@ -1,13 +1,13 @@
 -- What an instruction does, and runs.
-use Rattle.std.specs.Prelude.{ℕ, zero, suc, ◌+◌, ◌-◌, ℤ, pos, Bool, true, false, List, [], ◌∷◌, ◌++◌, length, map, Option, Some, None, Result, Ok, Err, slice_get, if◌then◌else◌, codes}
+use Rattle.std.specs.Prelude.{ℕ, zero, suc, ◌+◌, ◌-◌, ℤ, Bool, true, false, List, [], ◌∷◌, ◌++◌, length, map, Option, Some, None, Result, Ok, Err, slice_get, if◌then◌else◌, codes}
 use Rattle.lua_value.specs.Arithmetic as arithmetic
 use Rattle.lua_value.specs.declared.arithmetic.NumFault.{NumFault}
 use Rattle.lua_tree.specs.Tree.{Bytes}
 use Rattle.lua_meaning.specs.Value.{Value, nil, num, str, table, func, is_true, is_nil, first}
 use Rattle.lua_meaning.specs.Text.{as_number}
 use Rattle.lua_meaning.specs.Store.{Store, cell_value, add_cell, set_cell, add_table, raw_set}
-use Rattle.lua_meaning.specs.Message.{Ask, Reply}
-use Rattle.lua_meaning.specs.World.{Outcome, given, failed}
+use Rattle.lua_meaning.specs.Message.{Reply}
+use Rattle.lua_meaning.specs.World.{given}
 use Rattle.lua_meaning.specs.Fault.{Place, placed, index_text}
 use Rattle.lua_meaning.specs.Handlers as handlers
 use Rattle.lua_meaning.specs.Handlers.{Setting, setting}
@@ -15,7 +15,7 @@ use Rattle.lua_meaning.specs.Tables.{set_items}
 use Rattle.lua_meaning.specs.Running.{is_counting}
 use Rattle.lua_code.specs.Instr as i
 use Rattle.lua_code.specs.Instr.{Site, Operand, slot, constant, Wants, Instr, Proto, file_of, code_of}
-use Rattle.lua_code.specs.State.{put, put_values, row, Registers, with_slots, with_cells, with_tail, put_slot, Made, State, with_store, Running, Frame, waits, Active, lua, library, Config, End, needed, stuck, Pending, Step, on, stop, asks}
+use Rattle.lua_code.specs.State.{put, put_values, row, Registers, with_slots, with_cells, with_tail, put_slot, State, with_store, Running, Frame, waits, Active, lua, library, Config, End, needed, stuck, Step, on, stop, asks}
 use Rattle.lua_code.specs.Frames.{ticking, finish, raised, calling}
 use Rattle.lua_code.specs.Doing as doing
 use Rattle.lua_code.specs.Doing.{Use, plain, truth, untruth, Doing, unary_doing, binary_doing, field_doing}

@@ -1,13 +1,13 @@
 -- The code of a tree, with one case for each kind of node: the code of its parts in the tree's order, and the node's own
 -- instructions between them.
-use Rattle.std.specs.Prelude.{ℕ, zero, suc, pos, ◌+◌, ◌-◌, max, Bool, true, false, List, [], ◌∷◌, ◌++◌, length, Option, Some, None, if◌then◌else◌, ◌==◌}
-use Rattle.lua_tree.specs.Tree.{Bytes, UnOp, BinOp, Expr, nil, true_, false_, number, str, dots, function, name, index, call, method, table, unary, binary, paren, Exprs, no_exprs, expr_and, Fields, no_fields, item_and, keyed_and, Func, func, Block, no_stats, stat_and, Stat, assign, local, call_stat, do_block, while_loop, repeat_loop, if_stat, num_for, num_for_by, gen_for, function_stat, local_function, return_stat, break_stat, Arms, no_else, else_block, arm_and}
+use Rattle.std.specs.Prelude.{ℕ, suc, pos, ◌+◌, ◌-◌, max, Bool, true, false, List, [], ◌∷◌, ◌++◌, length, Option, Some, None, if◌then◌else◌, ◌==◌}
+use Rattle.lua_tree.specs.Tree.{Bytes, BinOp, Expr, nil, true_, false_, number, str, dots, function, name, index, call, method, table, unary, binary, paren, Exprs, no_exprs, expr_and, Fields, no_fields, item_and, keyed_and, Func, func, Block, no_stats, stat_and, Stat, assign, local, call_stat, do_block, while_loop, repeat_loop, if_stat, num_for, num_for_by, gen_for, function_stat, local_function, return_stat, break_stat, Arms, no_else, else_block, arm_and}
 use Rattle.lua_meaning.specs.Value.{Value}
 use Rattle.lua_meaning.specs.Names.{expr_names, func_names, block_names, captured_in}
 use Rattle.lua_meaning.specs.Expressions.{globals}
 use Rattle.lua_code.specs.Instr as i
 use Rattle.lua_code.specs.Instr.{Site, Operand, slot, constant, Instr, Proto, proto}
-use Rattle.lua_code.specs.Scope.{Kind, Scope, named, hidden, slot_count, cell_count, Seat, at_slot, at_cell, seat_of, declared, declare_code, cell_names, cell_places, around}
+use Rattle.lua_code.specs.Scope.{Scope, hidden, slot_count, cell_count, Seat, at_slot, at_cell, seat_of, declared, declare_code, cell_names, cell_places, around}
 
 -- ---- operands
 
@@ -299,14 +299,14 @@ abbrev mutual
   stat_code (while_loop line e b) later exit file scope =
       let h : ℕ = slot_count scope in
       let test : List Instr =
-          unless_ready (ready_slot e scope) (expr_code e file scope h h) in
+      unless_ready (ready_slot e scope) (expr_code e file scope h h) in
       loop_code (block_code b [] (length test + 1) file scope) test
       (slot_place (ready_slot e scope) h)
   stat_code (repeat_loop line b e) later exit file scope =
       let inner : Scope = scope_at_end b (expr_names false e) scope in
       let h : ℕ = slot_count inner in
       let test : List Instr =
-          unless_ready (ready_slot e inner) (expr_code e file inner h h) in
+      unless_ready (ready_slot e inner) (expr_code e file inner h h) in
       let body : List Instr = block_code b (expr_names false e) (length test + 1) file scope in
       i.tick ∷ (body ++ (test
       ++ i.back_unless (slot_place (ready_slot e inner) h) (length body + length test) ∷ []))
@@ -330,7 +330,7 @@ abbrev mutual
       let outer : Scope = numbers_in scope in
       let control : List Instr = each_code (site line (h + 3) scope) h (length xs) in
       let turn : List Instr = declare_code xs (captured_in body) outer ++ block_code body []
-          (length control + 1) file (declared xs (captured_in body) outer) in
+      (length control + 1) file (declared xs (captured_in body) outer) in
       exprs_code es file scope h ++ (fitted h 3 (count es) (tailed es)
       ++ i.skip (length turn) ∷ (turn ++ (control
       ++ i.each_next h (length turn + length control) ∷ [])))
@@ -362,7 +362,7 @@ abbrev mutual
       let rest : List Instr = arms_code arms exit file scope in
       let over : List Instr = skip_over rest in
       let body : List Instr =
-          block_code b [] (length over + (length rest + exit)) file scope in
+      block_code b [] (length over + (length rest + exit)) file scope in
       unless_ready (ready_slot e scope) (expr_code e file scope h h)
       ++ i.skip_unless (slot_place (ready_slot e scope) h) (length body + length over)
       ∷ (body ++ (over ++ rest))

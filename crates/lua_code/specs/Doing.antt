@@ -1,5 +1,5 @@
 -- What operators and fields come to on values and a store: a value, an error, or a handler that is asked.
-use Rattle.std.specs.Prelude.{ℕ, ◌+◌, ℤ, pos, neg_ℤ, Bool, true, false, not, List, [], ◌∷◌, ◌++◌, length, Option, Some, None, Result, Ok, Err, if◌then◌else◌, nat_le, codes}
+use Rattle.std.specs.Prelude.{◌+◌, ℤ, pos, neg_ℤ, Bool, true, false, not, List, [], ◌∷◌, ◌++◌, length, Option, Some, None, Result, Ok, Err, if◌then◌else◌, nat_le, codes}
 use Rattle.lua_value.specs.Arithmetic as arithmetic
 use Rattle.lua_value.specs.declared.arithmetic.NumFault.{NumFault}
 use Rattle.lua_tree.specs.Tree.{Bytes, UnOp, BinOp}

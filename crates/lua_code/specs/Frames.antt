@@ -107,8 +107,8 @@ abbrev pub entering : Raising → Callee → List Value → List Frame → (base
     Registers → State → Step
 entering raising callee args frames base cell_base r st =
     ticking st.ticks st (λ st. if has_room frames
-        then on (begun callee args frames base cell_base r st)
-        else raising (str (placed (caller (places frames)) (codes "stack overflow"))) st)
+    then on (begun callee args frames base cell_base r st)
+    else raising (str (placed (caller (places frames)) (codes "stack overflow"))) st)
 
 abbrev pub entering_called : Raising → Value → Option (Callee × List Value) → List Frame →
     (base cell_base : ℕ) → Registers → State → Step

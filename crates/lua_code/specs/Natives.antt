@@ -1,5 +1,5 @@
 -- What the functions of the library do in a machine. Those that neither call back nor ask are `library`.
-use Rattle.std.specs.Prelude.{ℕ, suc, pos, Bool, true, ◌||◌, List, [], ◌∷◌, ◌++◌, length, drop, map, Option, Some, None, Result, Ok, Err, if◌then◌else◌, nat_eq, nat_le, bytes_eq, codes}
+use Rattle.std.specs.Prelude.{ℕ, pos, true, List, [], ◌∷◌, ◌++◌, length, drop, map, Option, Some, None, Result, Ok, Err, if◌then◌else◌, nat_eq, bytes_eq, codes}
 use Rattle.love_base.specs.Data.{Contents}
 use Rattle.lua_tree.specs.Tree.{Bytes}
 use Rattle.lua_meaning.specs.Native.{Native}
@@ -7,7 +7,7 @@ use Rattle.lua_meaning.specs.Value.{Value, nil, flag, num, str, table, native, c
 use Rattle.lua_meaning.specs.Store.{Store, handler}
 use Rattle.lua_meaning.specs.Message.{Message, Source, Event, Ask, Reply}
 use Rattle.lua_meaning.specs.Packing.{PackFault, pack_text, pack, pack_all, unpack, unpack_all}
-use Rattle.lua_meaning.specs.World.{Module, begun, loaded, Outcome, given}
+use Rattle.lua_meaning.specs.World.{Module, begun, loaded, given}
 use Rattle.lua_meaning.specs.Fault.{placed, fault_value, refusal_text}
 use Rattle.lua_meaning.specs.Arguments.{Lib, Answer, answers, faults, argument, number_or, number_argument, text_argument}
 use Rattle.lua_meaning.specs.LoveArguments.{channel_argument, thread_argument, limit_argument, function_argument, status_argument}

@@ -1,5 +1,5 @@
 -- Where a machine is: what it runs, the frames that wait, its registers, and what its state has.
-use Rattle.std.specs.Prelude.{ℕ, zero, suc, ◌+◌, List, [], ◌∷◌, drop, Option, Some, None, if◌then◌else◌, ◌==◌}
+use Rattle.std.specs.Prelude.{ℕ, zero, suc, List, [], ◌∷◌, drop, Option, if◌then◌else◌, ◌==◌}
 use Rattle.lua_tree.specs.Tree.{Bytes}
 use Rattle.lua_meaning.specs.Native.{Native}
 use Rattle.lua_meaning.specs.Value.{Value, first}
@@ -7,7 +7,7 @@ use Rattle.lua_meaning.specs.Store.{Store}
 use Rattle.lua_meaning.specs.Message.{Ask}
 use Rattle.lua_meaning.specs.World.{Module, Outcome}
 use Rattle.lua_meaning.specs.Fault.{Place}
-use Rattle.lua_code.specs.Instr.{Operand, slot, constant, Wants, Proto}
+use Rattle.lua_code.specs.Instr.{Wants, Proto}
 
 -- ---- registers
 

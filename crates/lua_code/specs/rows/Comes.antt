@@ -1,8 +1,7 @@
 -- What rows of programs claim of the machine.
-use Rattle.std.specs.Prelude.{ℕ, ◌≡◌, [], length, Option, Some, None, option_map}
-use Rattle.lua_tree.specs.Tree.{Block}
+use Rattle.std.specs.Prelude.{ℕ, ◌≡◌, length, Option, Some, None, option_map}
 use Rattle.lua_meaning.specs.Value.{first}
-use Rattle.lua_meaning.specs.Control.{Code, ready, faulty, not_lua}
+use Rattle.lua_meaning.specs.Control.{Code, ready}
 use Rattle.lua_meaning.specs.Run as meaning
 use Rattle.lua_meaning.specs.Run.{Start, Run, done_value, error_text, failed_run, run_code}
 use Rattle.lua_code.specs.State.{State, End, ended, failed, no_ticks, needed, stuck}

@@ -1,5 +1,5 @@
 -- Rows of the machine: errors, their places, and pcall (manual §2.7, §5.1). Written by checks/machine-rows/write.py.
-use Rattle.std.specs.Prelude.{ℕ, pos, false, List, [], ◌∷◌, None, codes}
+use Rattle.std.specs.Prelude.{ℕ, List, [], None, codes}
 use Rattle.lua_meaning.specs.Control.{ready}
 use Rattle.lua_meaning.specs.Run.{End, done, failed}
 use Rattle.lua_meaning.specs.rows.Errors.{levels_program, level_one_program, error_values_program, level_two_pcall_program, main_level_two_program, pcall_pcall_program, not_called_program, operator_places_program, compare_texts_program, index_texts_program, nil_key_program, number_faults_program, for_texts_program, object_end_program, number_end_program, text_end_program, library_place_program, assert_plain_program, handler_error_program, error_through_program, overflow_program, overflow_caught_program, iterator_place_program, method_place_program}

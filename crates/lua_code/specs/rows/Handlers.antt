@@ -1,5 +1,5 @@
 -- Rows of the machine: metamethods (manual §2.8). Written by checks/machine-rows/write.py.
-use Rattle.std.specs.Prelude.{ℕ, pos, false, List, [], ◌∷◌, None, codes}
+use Rattle.std.specs.Prelude.{ℕ, List, [], None, codes}
 use Rattle.lua_meaning.specs.Control.{ready}
 use Rattle.lua_meaning.specs.Run.{End, done}
 use Rattle.lua_meaning.specs.rows.Handlers.{index_call_program, chain_program, index_loop_program, newindex_table_program, arithmetic_events_program, first_operand_program, equality_program, order_events_program, le_event_program, concat_middle_program, tostring_event_program, tostring_bad_program, protected_program, text_methods_program, call_chain_program, handler_called_program, raw_program, length_ignored_program}

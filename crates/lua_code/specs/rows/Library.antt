@@ -1,5 +1,5 @@
 -- Rows of the machine: functions of the library (manual §5). Written by checks/machine-rows/write.py.
-use Rattle.std.specs.Prelude.{ℕ, pos, List, [], ◌∷◌, None, codes}
+use Rattle.std.specs.Prelude.{ℕ, List, [], None, codes}
 use Rattle.lua_meaning.specs.Control.{ready}
 use Rattle.lua_meaning.specs.Run.{End, done}
 use Rattle.lua_meaning.specs.rows.Library.{format_program, format_more_program, format_faults_program, numbers_program, tonumber_more_program, sorted_program, sort_texts_program, no_patterns_program, found_program, subs_program, bytes_program, insertions_program, removals_program, joins_program, maxn_program, walks_program, cleared_walk_program, next_faults_program, ipairs_stop_program, selects_program, unpacks_program, maths_program, types_program, absent_program, concat_numbers_program, text_order_program, too_long_program, remainders_program}

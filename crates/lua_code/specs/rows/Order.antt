@@ -1,5 +1,5 @@
 -- Rows of the machine: order of evaluation, assignment and lists (manual §2.4.3, §2.5). Written by checks/machine-rows/write.py.
-use Rattle.std.specs.Prelude.{ℕ, pos, true, false, List, [], ◌∷◌, Some, None, codes}
+use Rattle.std.specs.Prelude.{ℕ, pos, List, [], Some, None, codes}
 use Rattle.lua_meaning.specs.Control.{ready}
 use Rattle.lua_meaning.specs.Run.{End, done}
 use Rattle.lua_meaning.specs.rows.Order.{swap_program, operands_program, arguments_program, fields_program, targets_program, last_first_program, same_target_program, and_or_program, middle_program, fewer_program, varargs_program, powers_program, greater_program, method_order_program, concat_order_program}

@@ -1,5 +1,5 @@
 -- Rows of the machine: locals, closures and loops (manual §2.4, §2.6). Written by checks/machine-rows/write.py.
-use Rattle.std.specs.Prelude.{ℕ, pos, false, List, [], ◌∷◌, None, codes}
+use Rattle.std.specs.Prelude.{ℕ, List, [], None, codes}
 use Rattle.lua_meaning.specs.Control.{ready}
 use Rattle.lua_meaning.specs.Run.{End, done}
 use Rattle.lua_meaning.specs.rows.Scopes.{loop_closures_program, shared_program, hidden_program, repeat_scope_program, repeat_captured_program, recursive_program, while_closures_program, each_closures_program, break_outer_program, return_inner_program, downwards_program, text_for_program, changed_counter_program, last_numbers_program, globals_program, named_functions_program, no_cells_program, loop_cells_program, parameter_cells_program, twice_declared_program, else_arms_program}

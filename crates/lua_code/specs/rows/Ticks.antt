@@ -1,5 +1,5 @@
 -- Rows of the machine: ticks: a statement, a turn of a loop and a call take one each. Written by checks/machine-rows/write.py.
-use Rattle.std.specs.Prelude.{ℕ, pos, false, List, [], ◌∷◌, None, codes}
+use Rattle.std.specs.Prelude.{ℕ, List, [], None, codes}
 use Rattle.lua_meaning.specs.Control.{ready}
 use Rattle.lua_meaning.specs.Run.{End, done, no_steps}
 use Rattle.lua_meaning.specs.rows.Ticks.{ten_program, nine_program, six_program, five_program, one_print_program, one_short_program, for_ever_program, nothing_program, pcall_ticks_program, pcall_short_program, handler_ticks_program, handler_short_program, table_handler_ticks_program, call_event_ticks_program, not_called_ticks_program, each_ticks_program, each_short_program, repeat_ticks_program, statement_ticks_program, tostring_ticks_program}
