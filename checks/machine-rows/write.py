@@ -21,6 +21,7 @@ def rows(name):
     programs = re.findall(r"^abbrev pub (\w+) : Block", rest, re.M)
     start = re.search(r"^abbrev pub [A-Z]\w* : Type 0|^-- ---- rows", rest, re.M).start()
     claims = rest[start:]
+    words = re.sub(r'"(?:\\.|[^"\\])*"', "", claims)
     title = head.splitlines()[0]
     title = title[: title.index(". Written")].replace("-- Rows:", "-- Rows of the machine:")
     uses = []
@@ -31,8 +32,8 @@ def rows(name):
             if others:
                 uses.append(f"use Rattle.lua_meaning.specs.rows.Comes.{{{', '.join(others)}}}")
         elif line.startswith("use "):
-            uses += needed(line, claims)
-    uses += needed(f"use Rattle.lua_meaning.specs.rows.{name}.{{{', '.join(programs)}}}", claims)
+            uses += needed(line, words)
+    uses += needed(f"use Rattle.lua_meaning.specs.rows.{name}.{{{', '.join(programs)}}}", words)
     uses.append("use Rattle.lua_code.specs.rows.Comes.{Comes}")
     return f"{title}. Written by checks/machine-rows/write.py.\n" + "\n".join(uses) + "\n\n" + claims
 
