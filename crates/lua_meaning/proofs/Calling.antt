@@ -7,11 +7,11 @@ use Rattle.lua_meaning.specs.World.{Act}
 use Rattle.lua_meaning.specs.Fault.{Place}
 use Rattle.lua_meaning.specs.Locals.{Env, Slot, held, cell, Flow, normal, broken, returned, slot_value, set_slot, set_found, set_local, find, make_slot, declare, in_scope, go_on, make_function, cells_of}
 use Rattle.lua_meaning.specs.Names.{func_names}
-use Rattle.lua_meaning.specs.Store.{add_cell, add_closure}
+use Rattle.lua_meaning.specs.Store.{add_cell}
 use Rattle.lua_meaning.specs.Calls.{Calls, Here, Callee, Task, Later, fault_at, results, enter, enter_called, call, call_at, call_back, place}
 use Rattle.lua_meaning.specs.Handlers.{Lookup, found, asks, unindexed, endless, Setting, in_table, asks_set, unindexed_set, endless_set}
 use Rattle.lua_meaning.specs.Operators.{ask_handler, ask_or_fault, exact, by_numbers, calculate, by_number, by_texts, size, truth, untruth, equal_by, equal, less_by, less, not_greater, up_to_by, up_to_known, up_to, unary_value, binary_value, operate, looked_up, field, set_raw, set_by, set_field}
-use Rattle.lua_meaning.proofs.Lawful.{Lawful, chain, costs, followed, behind, either, gives_lawful, raises_lawful, looks, changes, ticked, ones}
+use Rattle.lua_meaning.proofs.Lawful.{Lawful, chain, costs, followed, behind, either, gives_lawful, raises_lawful, looks, looks_around, changes, keeps, ticked, ones}
 
 -- ---- locals
 
@@ -56,8 +56,8 @@ go_on_lawful (returned vs) next h = gives_lawful _
 pub make_function_lawful : (file : Bytes) (f : Func) (env : Env) →
     Lawful 0 (make_function file f env)
 make_function_lawful file f env =
-    followed 0 (looks (λ s. length s.functions)) (λ place. behind 0 (changes (λ s. add_closure s
-    (record { file = file; node = f; cells = cells_of (func_names f) env }))) (gives_lawful
+    followed 0 (looks_around (λ functions s. length functions)) (λ place. behind 0 (keeps
+    (record { file = file; node = f; cells = cells_of (func_names f) env })) (gives_lawful
     (func place)))
 
 pub fault_lawful : {A : Type 0} (here : Here) (line : ℕ) (text : Bytes) →
@@ -86,7 +86,7 @@ module _ (again : Later) (h : Paid again) where
 
   pub call_lawful : (at : Option Place) (calls : Calls) (f : Value) (args : List Value) →
       Lawful 0 (call again at calls f args)
-  call_lawful at calls f args = followed 0 (looks _) (λ c. enter_called_lawful at calls f c)
+  call_lawful at calls f args = followed 0 (looks_around _) (λ c. enter_called_lawful at calls f c)
 
   pub call_at_lawful : (here : Here) (line : ℕ) (f : Value) (args : List Value) →
       Lawful 0 (call_at again here line f args)

@@ -3,9 +3,9 @@ use Rattle.std.proofs.Common.{ℕ, zero, suc, ◌+◌, ◌*◌, ◌≤◌, ◌�
 use Rattle.std.proofs.lemmas.List.{append-nil, length-append}
 use Rattle.love_base.specs.Prefix.{IsPrefix}
 use Rattle.lua_meaning.specs.Value.{Value}
-use Rattle.lua_meaning.specs.Store.{Store}
+use Rattle.lua_meaning.specs.Store.{Store, Closure}
 use Rattle.lua_meaning.specs.Message.{Ask, Reply}
-use Rattle.lua_meaning.specs.World.{World, Ends, gives, fails, out_of_steps, needs, Act, ◌>>>◌, ◌>>=◌, ◌>>◌, give, raise, take_tick, tick, look, change, answered, asking, add_line, one, single, caught, catching}
+use Rattle.lua_meaning.specs.World.{World, Ends, gives, fails, out_of_steps, needs, Act, ◌>>>◌, ◌>>=◌, ◌>>◌, give, raise, take_tick, tick, look, look_around, change, keep_function, answered, asking, add_line, one, single, caught, catching}
 use Rattle.lua_meaning.specs.Laws.{left}
 
 -- ---- prefixes
@@ -149,6 +149,30 @@ raises_lawful v = record {
 
 pub looks : {A : Type 0} (f : Store → A) → Lawful 0 (look f)
 looks f = record {
+  step = λ w. record {
+    ticks =
+        omega arith;
+    output = same_prefix w.output;
+    asks = same_prefix w.asks;
+    cost = omega arith;
+  };
+  more = λ w rs. refl;
+}
+
+pub looks_around : {A : Type 0} (f : List Closure → Store → A) → Lawful 0 (look_around f)
+looks_around f = record {
+  step = λ w. record {
+    ticks =
+        omega arith;
+    output = same_prefix w.output;
+    asks = same_prefix w.asks;
+    cost = omega arith;
+  };
+  more = λ w rs. refl;
+}
+
+pub keeps : (made : Closure) → Lawful 0 (keep_function made)
+keeps made = record {
   step = λ w. record {
     ticks =
         omega arith;

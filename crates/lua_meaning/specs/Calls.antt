@@ -4,7 +4,7 @@ use Rattle.lua_tree.specs.Tree.{Bytes, Expr, Block}
 use Rattle.lua_meaning.specs.Native.{Native}
 use Rattle.lua_meaning.specs.Value.{Value, str, func, native}
 use Rattle.lua_meaning.specs.Store.{Store, Closure, handler}
-use Rattle.lua_meaning.specs.World.{Act, ◌>>=◌, ◌>>◌, give, raise, tick, look}
+use Rattle.lua_meaning.specs.World.{Act, ◌>>=◌, ◌>>◌, give, raise, tick, look_around}
 use Rattle.lua_meaning.specs.Fault.{Place, placed, call_text}
 use Rattle.lua_meaning.specs.Locals.{Env, Flow, values_of}
 
@@ -66,10 +66,10 @@ callee_made None = None
 callee_made (Some closure) = Some (made closure)
 
 -- a function as a callee
-abbrev pub callee_of : Store → Value → Option Callee
-callee_of s (func f) = callee_made (slice_get s.functions f)
-callee_of s (native f) = Some (library f)
-callee_of s v = None
+abbrev pub callee_of : List Closure → Value → Option Callee
+callee_of functions (func f) = callee_made (slice_get functions f)
+callee_of functions (native f) = Some (library f)
+callee_of functions v = None
 
 abbrev pub with_args : Option Callee → List Value → Option (Callee × List Value)
 with_args None args = None
@@ -77,10 +77,10 @@ with_args (Some callee) args = Some (callee, args)
 
 -- what a call of a value runs, and on what: another value than a function is called through its handler `__call`, which
 -- is a function and gets the value first
-abbrev pub called : Store → Value → List Value → Option (Callee × List Value)
-called s (func f) args = with_args (callee_of s (func f)) args
-called s (native f) args = with_args (callee_of s (native f)) args
-called s v args = with_args (callee_of s (handler s v (codes "__call"))) (v ∷ args)
+abbrev pub called : List Closure → Store → Value → List Value → Option (Callee × List Value)
+called functions s (func f) args = with_args (callee_of functions (func f)) args
+called functions s (native f) args = with_args (callee_of functions (native f)) args
+called functions s v args = with_args (callee_of functions (handler s v (codes "__call"))) (v ∷ args)
 
 abbrev pub enter_called : Later → (at : Option Place) → Calls → Value →
     Option (Callee × List Value) → Act (List Value)
@@ -89,7 +89,8 @@ enter_called again at calls f (Some c) = enter again at calls c.0 c.1
 
 -- calls a value from a place
 abbrev pub call : Later → (at : Option Place) → Calls → Value → List Value → Act (List Value)
-call again at calls f args = look (λ s. called s f args) >>= λ c. enter_called again at calls f c
+call again at calls f args =
+    look_around (λ functions s. called functions s f args) >>= λ c. enter_called again at calls f c
 
 -- the same from a line of the running function
 abbrev pub call_at : Later → Here → ℕ → Value → List Value → Act (List Value)

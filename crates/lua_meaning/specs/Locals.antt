@@ -3,8 +3,8 @@ use Rattle.std.specs.Prelude.{ℕ, ◌-◌, Bool, true, false, List, [], ◌∷�
 use Rattle.lua_tree.specs.Tree.{Bytes, Func}
 use Rattle.lua_meaning.specs.Value.{Value, func as func_value, first}
 use Rattle.lua_meaning.specs.Names.{is_captured, func_names}
-use Rattle.lua_meaning.specs.Store.{cell_value, add_cell, set_cell, add_closure}
-use Rattle.lua_meaning.specs.World.{Act, ◌>>=◌, ◌>>◌, give, look, change}
+use Rattle.lua_meaning.specs.Store.{cell_value, add_cell, set_cell}
+use Rattle.lua_meaning.specs.World.{Act, ◌>>=◌, ◌>>◌, give, look, look_around, change, keep_function}
 
 -- where a local's value is
 pub data Slot : Type 0 where
@@ -104,13 +104,13 @@ cells_of (x ∷ xs) env = cell_found x (find x env) ++ cells_of xs env
 -- a new function of a file
 abbrev pub make_function : (file : Bytes) → Func → Env → Act Value
 make_function file f env = do
-  place ← look (λ s. length s.functions)
-  change (λ s. add_closure s (record {
+  place ← look_around (λ functions s. length functions)
+  keep_function (record {
     file =
         file;
     node = f;
     cells = cells_of (func_names f) env;
-  }))
+  })
   give (func_value place)
 
 -- the locals that a function finds outside itself

@@ -58,7 +58,6 @@ first_store state = record {
   tables =
       first_tables state;
   cells = [];
-  functions = [];
   contents = [];
 }
 
@@ -78,6 +77,7 @@ abbrev pub first_world : Start → Store → World
 first_world start s =
     record {
       store = s;
+      functions = [];
       modules =
           [];
       output = [];

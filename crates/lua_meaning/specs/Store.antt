@@ -1,4 +1,4 @@
--- What a state holds: its tables, cells, functions and Data, and how a table is read and changed without metamethods.
+-- What a state's values name: its tables, cells and Data, and how a table is read and changed without metamethods.
 use Rattle.std.specs.Prelude.{ℕ, zero, suc, pos, List, [], ◌∷◌, ◌++◌, slice_get, slice_set, Option, Some, None, unwrap_or, if◌then◌else◌, nat_le}
 use Rattle.love_base.specs.Data.{Contents}
 use Rattle.lua_table.specs.Table.{Places, get, set, clear_key, border as least_border}
@@ -17,11 +17,10 @@ pub record Closure : Type 0 where
   pub node : Func
   pub cells : List (Bytes × ℕ)
 
--- the tables, cells, functions and Data that a state has made, each found at its place from 0
+-- the tables, cells and Data that a state has made, each found at its place from 0
 pub record Store : Type 0 where
   pub tables : List Table
   pub cells : List Value
-  pub functions : List Closure
   pub contents : List Contents
 
 -- ---- the tables that each state has from its start
@@ -132,7 +131,7 @@ raw_set s t key value =
 abbrev pub set_meta : Store → ℕ → Option ℕ → Store
 set_meta s t meta = set_table s t (record { places = (table_at s t).places; meta = meta })
 
--- a new table stands at the first free place, and so do a new cell, function and Data
+-- a new table stands at the first free place, and so do a new cell and Data
 abbrev pub add_table : Store → Store
 add_table s = record s { tables = s.tables ++ no_table ∷ [] }
 
@@ -141,9 +140,6 @@ add_cell s v = record s { cells = s.cells ++ v ∷ [] }
 
 abbrev pub set_cell : Store → ℕ → Value → Store
 set_cell s c v = record s { cells = slice_set s.cells c v }
-
-abbrev pub add_closure : Store → Closure → Store
-add_closure s made = record s { functions = s.functions ++ made ∷ [] }
 
 abbrev pub add_contents : Store → Contents → Store
 add_contents s made = record s { contents = s.contents ++ made ∷ [] }

@@ -3,17 +3,18 @@ use Rattle.std.specs.Prelude.{ℕ, zero, suc, List, [], ◌∷◌, ◌++◌, len
 use Rattle.lua_meaning.specs.Message.{Ask, Reply}
 use Rattle.lua_tree.specs.Tree.{Bytes}
 use Rattle.lua_meaning.specs.Value.{Value, first}
-use Rattle.lua_meaning.specs.Store.{Store}
+use Rattle.lua_meaning.specs.Store.{Store, Closure}
 
 -- a module that `require` was asked for: it runs or has failed, or it gave a value
 pub data Module : Type 0 where
   begun : Module
   loaded : Value → Module
 
--- a state: what it holds, the modules by their names, what it has printed and the length after each print, the ticks
+-- a state: what it holds, the functions that it has made, each at its place from 0, the modules by their names, what it has printed and the length after each print, the ticks
 -- that are left, the asks that were answered and the replies that are left
 pub record World : Type 0 where
   pub store : Store
+  pub functions : List Closure
   pub modules : List (Bytes × Module)
   pub output : List ℕ
   pub ends : List ℕ
@@ -73,6 +74,14 @@ look f w = gives (f w.store) w
 -- changes the store
 abbrev pub change : (Store → Store) → Act ⊤
 change f w = gives tt (record w { store = f w.store })
+
+-- what the functions and the store say
+abbrev pub look_around : {A : Type 0} → (List Closure → Store → A) → Act A
+look_around f w = gives (f w.functions w.store) w
+
+-- a new function stands at the first free place
+abbrev pub keep_function : Closure → Act ⊤
+keep_function made w = gives tt (record w { functions = w.functions ++ made ∷ [] })
 
 abbrev pub answered : Ask → List Reply → World → Ends Reply
 answered ask [] w = needs ask w

@@ -1,0 +1,10 @@
+pub mod Instr
+pub mod Scope
+pub mod Code
+pub mod State
+pub mod Frames
+pub mod Doing
+pub mod Natives
+pub mod Act
+pub mod Follows
+pub mod rows

@@ -1,0 +1,5 @@
+//! Code of Lua: what code a tree has, and what a machine does with it.
+#![tactic(auto)]
+
+pub mod laws;
+pub mod rows;
