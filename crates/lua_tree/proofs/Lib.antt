@@ -22,3 +22,9 @@ pub mod Exactly
 pub mod Precedence
 pub mod Rows
 pub mod FaultRows
+pub mod SameKind
+pub mod Places
+pub mod Taking
+pub mod Lines
+pub mod Marks
+pub mod Counted

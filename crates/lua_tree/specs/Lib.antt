@@ -8,3 +8,7 @@ pub mod Laws
 pub mod Precedence
 pub mod Rows
 pub mod FaultRows
+pub mod View
+pub mod Spelled
+pub mod Answer
+pub mod Parsed

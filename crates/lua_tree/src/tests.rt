@@ -1,0 +1,4 @@
+mod faults;
+mod limits;
+mod shown;
+mod trees;
