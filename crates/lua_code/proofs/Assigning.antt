@@ -1,31 +1,29 @@
 -- Assignments in the machine come to what they mean.
-use Rattle.std.proofs.Common.{ℕ, zero, suc, ◌+◌, ◌≡◌, ◌≤◌, ◌<◌, refl, sym, ap, ◌∙◌, subst, List, [], ◌∷◌, ◌++◌, length, Option, Some, None, Bool, true, false, arith, slice_get, length-append}
-use Rattle.std.specs.Prelude.{drop, codes, ⊤}
+use Rattle.std.proofs.Common.{ℕ, zero, suc, ◌+◌, ◌≡◌, ◌≤◌, ◌<◌, refl, sym, ap, ◌∙◌, subst, List, [], ◌∷◌, length, Option, Some, None, arith, slice_get, length-append}
+use Rattle.std.specs.Prelude.{drop}
 use Rattle.lua_tree.specs.Tree.{Bytes, Expr, nil, true_, false_, number, str, dots, function, name, index, call, method, table, unary, binary, paren, Exprs, no_exprs, expr_and}
 use Rattle.lua_meaning.specs.Value.{Value, first}
-use Rattle.lua_meaning.specs.Store.{set_cell, raw_set}
-use Rattle.lua_meaning.specs.World.{World, Ends, gives, fails, out_of_steps, needs, ◌>>>◌, Act, one}
+use Rattle.lua_meaning.specs.Store.{set_cell}
+use Rattle.lua_meaning.specs.World.{World, gives, ◌>>>◌, one}
 use Rattle.lua_meaning.specs.Handlers as handlers
 use Rattle.lua_meaning.specs.Handlers.{Setting, setting}
-use Rattle.lua_meaning.specs.Locals.{Env, Slot, held, cell, find, set_local, set_found, holding}
+use Rattle.lua_meaning.specs.Locals.{Env, Slot, held, cell, find, set_found, holding}
 use Rattle.lua_meaning.specs.Calls.{Later, Here, call_at}
 use Rattle.lua_meaning.specs.Control.{Game}
 use Rattle.lua_meaning.specs.Operators.{set_raw, set_by, set_field}
 use Rattle.lua_meaning.specs.Expressions.{eval, globals}
-use Rattle.lua_meaning.specs.Statements as meaning
 use Rattle.lua_meaning.specs.Statements.{Target, local_target, field_target, no_target, name_target, target, targets, assign_to, assign_all}
 use Rattle.lua_code.specs.Instr as i
 use Rattle.lua_code.specs.Instr.{Site, Operand, slot, constant, Instr, file_of, code_of}
 use Rattle.lua_code.specs.Scope.{Scope, slot_count, cell_count, Seat, at_slot, at_cell, seat_of}
 use Rattle.lua_code.specs.Code.{site, width, widths, target_count, store_name, store, stores, expr_code, target_code, targets_code}
-use Rattle.lua_code.specs.State.{Registers, put_slot, State, Running, Frame, waits, lua, Step, on}
+use Rattle.lua_code.specs.State.{Registers, put_slot, Running, Frame, waits, lua, on}
 use Rattle.lua_code.specs.Natives.{Program}
-use Rattle.lua_code.specs.Act.{at_pc, at_line, operand, sets, sets_raw, handling}
-use Rattle.lua_code.specs.Act as act
+use Rattle.lua_code.specs.Act.{at_pc, at_line, operand, sets}
 use Rattle.lua_code.specs.Follows.{state_of, program_of}
-use Rattle.lua_code.proofs.Registers.{Below, below_self, Stays, stays_self, stays_on, stays_less, stays_put, put_same, put_other, differs_above, Holds, holds_stays, Reads, reads}
-use Rattle.lua_code.proofs.Goes.{Thread, Comes, comes_self, comes_on, Stands, front, back, stepping, going, Goes, first_comes, both, then_on, one_step}
-use Rattle.lua_code.proofs.Calling.{Invokes, calls_on, Received, to_the_frame}
+use Rattle.lua_code.proofs.Registers.{Stays, stays_self, stays_on, stays_put, put_other, differs_above, Holds, holds_stays, Reads, reads}
+use Rattle.lua_code.proofs.Goes.{comes_self, comes_on, Stands, front, back, stepping, going, Goes, first_comes, both, one_step}
+use Rattle.lua_code.proofs.Calling.{Invokes, calls_on, to_the_frame}
 use Rattle.lua_code.proofs.Landing.{here_of, held_in, operand_is, goes_at}
 use Rattle.lua_code.proofs.Expressions.{evaluated}
 use Rattle.lua_code.proofs.Nodes.{weaken, raw_goes, expr_goes}

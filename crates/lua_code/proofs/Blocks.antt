@@ -1,11 +1,11 @@
 -- Statements and blocks in the machine come to what they mean.
-use Rattle.std.proofs.Common.{ℕ, zero, suc, ◌+◌, ◌-◌, ◌≡◌, ◌≤◌, ◌<◌, refl, sym, ap, ◌∙◌, subst, List, [], ◌∷◌, ◌++◌, length, map, Option, Some, None, Bool, true, false, arith, slice_get, length-append, append_assoc, ℤ, pos}
-use Rattle.std.specs.Prelude.{if◌then◌else◌, codes, drop}
+use Rattle.std.proofs.Common.{ℕ, suc, ◌+◌, ◌≡◌, ◌≤◌, refl, sym, ap, ◌∙◌, subst, List, [], ◌∷◌, ◌++◌, length, Option, Some, None, Bool, true, false, arith, length-append, append_assoc, ℤ, pos}
+use Rattle.std.specs.Prelude.{if◌then◌else◌, codes}
 use Rattle.lua_tree.specs.Tree.{Bytes, Expr, function, Exprs, Block, no_stats, stat_and, Stat, assign, local, call_stat, do_block, while_loop, repeat_loop, if_stat, num_for, num_for_by, gen_for, function_stat, local_function, return_stat, break_stat, Arms, no_else, else_block, arm_and, Func}
 use Rattle.lua_meaning.specs.Value.{Value, first, is_true, num}
 use Rattle.lua_meaning.specs.Text.{as_number}
-use Rattle.lua_meaning.specs.Names.{expr_names, captured_in, block_names, func_names, is_captured}
-use Rattle.lua_meaning.specs.World.{World, Ends, gives, fails, out_of_steps, needs, ◌>>>◌, ◌>>=◌, Act, give, one, take_tick, given}
+use Rattle.lua_meaning.specs.Names.{block_names, func_names, is_captured}
+use Rattle.lua_meaning.specs.World.{World, gives, ◌>>>◌, ◌>>=◌, give, one, take_tick, given}
 use Rattle.lua_meaning.specs.Locals.{Env, Flow, normal, broken, returned, declare, make_slot, set_local, closed, go_on}
 use Rattle.lua_meaning.specs.Calls.{Later, Here, Task, while_turn, repeat_turn, count_turn}
 use Rattle.lua_meaning.specs.Control.{Game}
@@ -13,26 +13,26 @@ use Rattle.lua_meaning.specs.Expressions.{eval, evals}
 use Rattle.lua_meaning.specs.Statements.{exec, block, choose, target, targets, assign_to, assign_all, wants_number, for_numbers}
 use Rattle.lua_code.specs.Instr as i
 use Rattle.lua_code.specs.Instr.{Instr, file_of, code_of, slot, constant}
-use Rattle.lua_code.specs.Scope.{Kind, in_slot, in_cell, outside, Scope, named, kind_of, cell_code, seat_behind, seat_of, slot_count, cell_count, declared, declare_code}
+use Rattle.lua_code.specs.Scope.{Kind, in_slot, in_cell, outside, Scope, named, kind_of, cell_code, seat_behind, seat_of, slot_count, cell_count, declare_code}
 use Rattle.lua_code.specs.Code.{local_code, width, widths, target_count, store, stores, target_code, targets_code, ready_slot, slot_place, site, fitted, tailed, count, skip_over, expr_code, exprs_code, block_code, stat_code, arms_code, scope_behind, scope_at_end, numbers_in, count_code}
-use Rattle.lua_code.specs.State.{Registers, put_slot, State, Running, Frame, lua, Step, on}
+use Rattle.lua_code.specs.State.{Registers, put_slot, Running, Frame, lua, on}
 use Rattle.lua_code.specs.Frames.{finish, ticking}
 use Rattle.lua_code.specs.Natives.{Program}
-use Rattle.lua_code.specs.Act.{at_pc, list, begins, turns}
+use Rattle.lua_code.specs.Act.{at_pc, begins, turns}
 use Rattle.lua_code.specs.Follows.{state_of, program_of}
 use Rattle.lua_code.proofs.Registers.{differs, Stays, stays_self, stays_on, stays_less, stays_put, put_same, Holds, holds_stays}
-use Rattle.lua_code.proofs.Goes.{Thread, Comes, comes_self, comes_on, Stands, front, back, stepping, going, left_at, Goes, first_comes, first_stays, both, then_on, one_step, tick_goes}
-use Rattle.lua_code.proofs.Calling.{Invokes, if_goes}
-use Rattle.lua_code.proofs.Landing.{here_of, Got, got_stays, lands, LoneIf, goes_at}
-use Rattle.lua_code.proofs.Expressions.{left, evaluated, listed}
+use Rattle.lua_code.proofs.Goes.{Comes, comes_self, comes_on, Stands, front, back, stepping, going, Goes, first_comes, first_stays, both, then_on, one_step, tick_goes}
+use Rattle.lua_code.proofs.Calling.{Invokes}
+use Rattle.lua_code.proofs.Landing.{here_of, Got, got_stays, LoneIf, goes_at}
+use Rattle.lua_code.proofs.Expressions.{left, evaluated}
 use Rattle.lua_code.proofs.Nodes.{weaken, list_is, single_on, expr_goes, exprs_goes}
-use Rattle.lua_code.proofs.Scopes.{After, Closed, Unmoved, unmoved_below, unmoved_self, unmoved_on, unmoved_outer, after_closed, after_less, behind_more, end_more, Rowed}
+use Rattle.lua_code.proofs.Scopes.{After, Closed, Unmoved, unmoved_below, unmoved_self, unmoved_on, unmoved_outer, after_closed, after_less, behind_more}
 use Rattle.lua_code.proofs.LocalFunctions.{seat_is, placed}
 use Rattle.lua_code.proofs.Each.{each_begins}
 use Rattle.lua_code.proofs.Assigning.{target_goes, target_stored, targets_goes, stores_goes, fits_stays, all_stay}
 use Rattle.lua_code.proofs.Statements.{values_goes, one_declared, slots_one, cells_one, declare_goes, scoped_goes}
-use Rattle.lua_code.proofs.Claims.{flow_at, test_code, while_body, while_code, repeat_code, turn_code, count_loop, Claim, Does, Runs, Chooses}
-use Rattle.lua_code.proofs.Loops.{invokes, Leaves, while_goes, repeat_goes, left_here}
+use Rattle.lua_code.proofs.Claims.{flow_at, test_code, while_body, turn_code, Claim, Does, Runs, Chooses}
+use Rattle.lua_code.proofs.Loops.{invokes}
 
 module _ (game : Game) (n : ℕ) (again : Later) (claim : (t : Task) → Claim game n again t) (run : Running) (frames : List Frame) where
   abbrev P : Program

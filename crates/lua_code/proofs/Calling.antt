@@ -1,19 +1,18 @@
 -- Calls in the machine come to what they mean, where a task behind a tick does.
-use Rattle.std.proofs.Common.{ℕ, zero, suc, ◌+◌, ◌≡◌, ◌≤◌, refl, sym, ap, ◌∙◌, subst, List, [], ◌∷◌, ◌++◌, length, map, Option, Some, None, option_map, Bool, true, false, arith, slice_get}
-use Rattle.std.specs.Prelude.{⊤, not, if◌then◌else◌, nat_lt, codes}
+use Rattle.std.proofs.Common.{ℕ, suc, ◌+◌, ◌≡◌, ◌≤◌, refl, sym, ap, ◌∙◌, subst, List, ◌∷◌, length, map, Option, Some, None, option_map, Bool, true, false, arith, slice_get}
+use Rattle.std.specs.Prelude.{not, if◌then◌else◌, nat_lt, codes}
 use Rattle.std.proofs.lemmas.List.{length-map}
 use Rattle.std.proofs.lemmas.Option.{slice_get-map}
-use Rattle.lua_tree.specs.Tree.{Bytes}
 use Rattle.lua_meaning.specs.Value.{Value, nil, flag, num, str, table, func, native, channel, thread, datum, first, is_true}
 use Rattle.lua_meaning.specs.Store.{Store, Closure, handler}
-use Rattle.lua_meaning.specs.World.{World, Ends, gives, fails, out_of_steps, needs, ◌>>>◌, Act, Outcome, given, failed}
+use Rattle.lua_meaning.specs.World.{World, Ends, gives, fails, out_of_steps, needs, Act}
 use Rattle.lua_meaning.specs.Fault.{Place, placed, call_text}
-use Rattle.lua_meaning.specs.Locals.{Flow, values_of}
+use Rattle.lua_meaning.specs.Locals.{values_of}
 use Rattle.lua_meaning.specs.Calls as calls
 use Rattle.lua_meaning.specs.Calls.{Later, invoke, results, enter, enter_called, call}
 use Rattle.lua_meaning.specs.Control.{Game}
 use Rattle.lua_code.specs.Instr.{Wants, to_slot, truth_to, untruth_to, to_tail, nothing}
-use Rattle.lua_code.specs.State.{Registers, Made, State, Running, Frame, waits, Step, on}
+use Rattle.lua_code.specs.State.{Registers, Running, Frame, waits, Step, on}
 use Rattle.lua_code.specs.Frames as frames
 use Rattle.lua_code.specs.Frames.{place_of, places, Raising, begun, entering, entering_called, calling_with, received, raised, calling}
 use Rattle.lua_code.specs.Natives.{Program}

@@ -1,20 +1,18 @@
 -- What is claimed of each task behind a tick, and of statements and blocks.
-use Rattle.std.proofs.Common.{ℕ, suc, ◌+◌, ◌≡◌, ◌≤◌, refl, List, [], ◌∷◌, ◌++◌, length, Bool, true, false, ℤ}
+use Rattle.std.proofs.Common.{ℕ, suc, ◌+◌, ◌≡◌, ◌≤◌, List, [], ◌∷◌, ◌++◌, length, false}
 use Rattle.lua_tree.specs.Tree.{Bytes, Expr, Block, Stat, Arms}
-use Rattle.lua_meaning.specs.Value.{Value}
 use Rattle.lua_meaning.specs.Message.{Ask}
 use Rattle.lua_meaning.specs.Names.{expr_names, captured_in}
 use Rattle.lua_meaning.specs.World.{World}
 use Rattle.lua_meaning.specs.Locals.{Env, Flow, normal, broken, returned, values_of}
-use Rattle.lua_meaning.specs.Calls as calls
-use Rattle.lua_meaning.specs.Calls.{Here, Later, Task, invoke, while_turn, repeat_turn, count_turn, each_turn, clear_turn}
+use Rattle.lua_meaning.specs.Calls.{Later, Task, invoke, while_turn, repeat_turn, count_turn, each_turn, clear_turn}
 use Rattle.lua_meaning.specs.Control.{Game}
 use Rattle.lua_meaning.specs.Statements.{exec, block, choose}
 use Rattle.lua_code.specs.Instr as i
 use Rattle.lua_code.specs.Instr.{Instr, file_of, code_of}
 use Rattle.lua_code.specs.Scope.{Scope, slot_count, declared, declare_code}
 use Rattle.lua_code.specs.Code.{ready_slot, unless_ready, slot_place, site, expr_code, block_code, stat_code, arms_code, scope_behind, scope_at_end, numbers_in, each_code}
-use Rattle.lua_code.specs.State.{Registers, State, Running, Frame, lua, Step, on}
+use Rattle.lua_code.specs.State.{Registers, Running, Frame, lua, on}
 use Rattle.lua_code.specs.Frames.{places, begun, ticking}
 use Rattle.lua_code.specs.Natives.{Program, asks_for}
 use Rattle.lua_code.specs.State.{clears}

@@ -1,6 +1,6 @@
 -- Closures in the machine hold the code and the cells of those that are meant.
-use Rattle.std.proofs.Common.{ℕ, ◌+◌, ◌≡◌, refl, sym, ap, ◌∙◌, List, [], ◌∷◌, ◌++◌, length, map, Option, Some, None}
-use Rattle.std.proofs.lemmas.List.{map-append, append-nil, length-map}
+use Rattle.std.proofs.Common.{ℕ, ◌+◌, ◌≡◌, refl, sym, ap, ◌∙◌, List, [], ◌∷◌, ◌++◌, map, Option, Some, None}
+use Rattle.std.proofs.lemmas.List.{map-append, append-nil}
 use Rattle.lua_tree.specs.Tree.{Bytes, Func}
 use Rattle.lua_meaning.specs.Store.{Closure}
 use Rattle.lua_meaning.specs.Names.{func_names}
@@ -8,7 +8,7 @@ use Rattle.lua_meaning.specs.Locals as locals
 use Rattle.lua_meaning.specs.Locals.{Env, Slot, held, cell, find}
 use Rattle.lua_code.specs.Scope.{Scope, Seat, at_slot, at_cell, seat_of, cell_of_seat, name_of_seat, cell_names, cell_places}
 use Rattle.lua_code.specs.Code.{func_code}
-use Rattle.lua_code.specs.State.{Registers, Made}
+use Rattle.lua_code.specs.State.{Registers}
 use Rattle.lua_code.specs.Follows.{cells_of, names_of, made_of}
 use Rattle.lua_code.proofs.Registers.{Holds, Reads, reads}
 

@@ -1,31 +1,29 @@
 -- Numeric loops in the machine come to what they mean.
-use Rattle.std.proofs.Common.{ℕ, zero, suc, ◌+◌, ◌-◌, ◌≡◌, ◌≤◌, ◌<◌, refl, sym, ap, ◌∙◌, subst, List, [], ◌∷◌, ◌++◌, length, Option, Some, None, Bool, true, false, arith, slice_get, length-append, Result, Ok, Err, ℤ}
-use Rattle.std.specs.Prelude.{if◌then◌else◌, codes}
+use Rattle.std.proofs.Common.{ℕ, suc, ◌+◌, ◌-◌, ◌≡◌, ◌≤◌, refl, sym, ap, ◌∙◌, List, [], ◌∷◌, length, Bool, true, false, arith, length-append, Result, Ok, Err, ℤ}
+use Rattle.std.specs.Prelude.{if◌then◌else◌}
 use Rattle.lua_value.specs.Arithmetic as arithmetic
 use Rattle.lua_value.specs.declared.arithmetic.NumFault.{NumFault}
-use Rattle.lua_tree.specs.Tree.{Bytes, Expr, Block}
-use Rattle.lua_meaning.specs.Value.{Value, num, first}
-use Rattle.lua_meaning.specs.Text.{as_number}
-use Rattle.lua_meaning.specs.World.{World, Ends, gives, fails, ◌>>>◌, ◌>>=◌, Act, give}
+use Rattle.lua_tree.specs.Tree.{Bytes, Block}
+use Rattle.lua_meaning.specs.Value.{num}
+use Rattle.lua_meaning.specs.World.{World, ◌>>>◌, give}
 use Rattle.lua_meaning.specs.Locals.{Env, Flow, normal, broken, returned}
 use Rattle.lua_meaning.specs.Calls.{Later, Here, Task, count_turn}
 use Rattle.lua_meaning.specs.Control.{Game}
-use Rattle.lua_meaning.specs.Statements.{for_numbers}
 use Rattle.lua_meaning.specs.Running.{turn, looped, is_counting, counted, count_on}
 use Rattle.lua_code.specs.Instr as i
 use Rattle.lua_code.specs.Instr.{Site, Instr, file_of, code_of}
 use Rattle.lua_code.specs.Scope.{Scope, slot_count, cell_count}
-use Rattle.lua_code.specs.Code.{numbers_in, count_code}
-use Rattle.lua_code.specs.State.{put, Registers, with_slots, put_slot, State, Running, Frame, Step}
+use Rattle.lua_code.specs.Code.{numbers_in}
+use Rattle.lua_code.specs.State.{put, Registers, with_slots, put_slot, Running, Frame}
 use Rattle.lua_code.specs.Frames.{ticking}
 use Rattle.lua_code.specs.Natives.{Program}
-use Rattle.lua_code.specs.Act.{at_pc, turns, begins, counts, counts_on, numbers}
+use Rattle.lua_code.specs.Act.{at_pc, turns, counts, counts_on}
 use Rattle.lua_code.specs.Follows.{state_of, program_of}
 use Rattle.lua_code.proofs.Registers.{Below, below_self, below_put, put_same, put_other, differs, Stays, stays_self, Holds, holds_stays}
-use Rattle.lua_code.proofs.Goes.{Thread, Comes, comes_self, comes_on, Stands, front, back, stepping, going, Goes, first_comes, first_stays, one_step}
+use Rattle.lua_code.proofs.Goes.{comes_self, Stands, front, back, stepping, Goes, first_comes, first_stays, one_step}
 use Rattle.lua_code.proofs.Landing.{here_of, goes_at}
 use Rattle.lua_code.proofs.Nodes.{weaken}
-use Rattle.lua_code.proofs.Scopes.{Closed, Unmoved, unmoved_below, unmoved_on, Rowed}
+use Rattle.lua_code.proofs.Scopes.{unmoved_below, unmoved_on}
 use Rattle.lua_code.proofs.Claims.{flow_at, turn_code, count_loop, Claim, Runs}
 use Rattle.lua_code.proofs.Loops.{invokes, at_code, Leaves, turn_goes}
 

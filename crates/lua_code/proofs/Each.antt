@@ -1,10 +1,10 @@
 -- Generic loops in the machine come to what they mean.
-use Rattle.std.proofs.Common.{ℕ, zero, suc, ◌+◌, ◌-◌, ◌≡◌, ◌≤◌, ◌<◌, refl, sym, ap, ◌∙◌, subst, List, [], ◌∷◌, ◌++◌, length, Option, Some, None, Bool, true, false, arith, slice_get, length-append, append_assoc}
+use Rattle.std.proofs.Common.{ℕ, zero, suc, ◌+◌, ◌-◌, ◌≡◌, ◌≤◌, refl, sym, ap, ◌∙◌, subst, List, [], ◌∷◌, ◌++◌, length, Bool, true, false, arith, length-append, append_assoc}
 use Rattle.std.specs.Prelude.{if◌then◌else◌, drop, max}
-use Rattle.lua_tree.specs.Tree.{Bytes, Expr, Exprs, Block, gen_for}
+use Rattle.lua_tree.specs.Tree.{Bytes, Exprs, Block, gen_for}
 use Rattle.lua_meaning.specs.Value.{Value, first, is_nil}
 use Rattle.lua_meaning.specs.Arguments.{argument}
-use Rattle.lua_meaning.specs.World.{World, Ends, gives, fails, ◌>>>◌, ◌>>=◌, Act, give}
+use Rattle.lua_meaning.specs.World.{World, ◌>>>◌, ◌>>=◌, give}
 use Rattle.lua_meaning.specs.Locals.{Env, Flow, normal, broken, returned}
 use Rattle.lua_meaning.specs.Calls.{Later, Here, Task, call_at, each_turn}
 use Rattle.lua_meaning.specs.Control.{Game}
@@ -14,19 +14,19 @@ use Rattle.lua_code.specs.Instr as i
 use Rattle.lua_code.specs.Instr.{Site, Instr, file_of, code_of, slot}
 use Rattle.lua_code.specs.Scope.{Scope, slot_count, cell_count}
 use Rattle.lua_code.specs.Code.{site, numbers_in, fitted, tailed, count, exprs_code}
-use Rattle.lua_code.specs.State.{put, put_values, row, Registers, with_slots, with_tail, put_slot, State, Running, Frame, lua, Step, on}
+use Rattle.lua_code.specs.State.{put_values, row, Registers, with_slots, put_slot, Running, Frame}
 use Rattle.lua_code.specs.Frames.{ticking}
 use Rattle.lua_code.specs.Natives.{Program}
 use Rattle.lua_code.specs.Act.{at_pc, each}
 use Rattle.lua_code.specs.Follows.{state_of, program_of}
-use Rattle.lua_code.proofs.Registers.{Below, below_self, below_put, below_on, below_values, below_less, put_same, put_other, differs, differs_above, Stays, stays_self, stays_on, stays_less, stays_put, stays_values, stays_tail, Holds, holds_stays}
-use Rattle.lua_code.proofs.Goes.{Thread, Comes, comes_self, comes_on, Stands, front, back, stepping, going, Goes, first_comes, first_stays, both, one_step}
+use Rattle.lua_code.proofs.Registers.{Below, below_self, below_put, put_same, put_other, differs, differs_above, Stays, stays_self, stays_on, stays_less, stays_values, stays_tail, Holds, holds_stays}
+use Rattle.lua_code.proofs.Goes.{Comes, comes_self, comes_on, Stands, front, back, stepping, going, Goes, first_comes, first_stays, both, one_step}
 use Rattle.lua_code.proofs.Landing.{here_of, goes_at}
 use Rattle.lua_code.proofs.Nodes.{weaken, invokes_goes}
-use Rattle.lua_code.proofs.Scopes.{Closed, Unmoved, unmoved_below, unmoved_self, unmoved_on, after_closed, Rowed, rowed_put}
+use Rattle.lua_code.proofs.Scopes.{unmoved_below, unmoved_self, unmoved_on, after_closed, Rowed, rowed_put}
 use Rattle.lua_code.proofs.Statements.{values_goes}
 use Rattle.lua_code.proofs.Assigning.{rowed_stays}
-use Rattle.lua_code.proofs.Claims.{flow_at, turn_code, each_control, each_turn_code, each_loop, Claim, Does, Runs}
+use Rattle.lua_code.proofs.Claims.{flow_at, each_control, each_turn_code, each_loop, Claim, Does, Runs}
 use Rattle.lua_code.proofs.Loops.{invokes, at_code, Leaves, turn_goes}
 
 rowed_less : (s : ℕ → Value) (at n m : ℕ) (vs : List Value) → n ≤ m → Rowed s at m vs → Rowed s at n vs

@@ -1,34 +1,28 @@
 -- Expressions in the machine come to what they mean.
-use Rattle.std.proofs.Common.{ℕ, zero, suc, ◌+◌, ◌≡◌, ◌≤◌, ◌<◌, refl, sym, ap, ◌∙◌, subst, List, [], ◌∷◌, ◌++◌, length, map, Option, Some, None, Bool, true, false, arith, slice_get, length-append}
-use Rattle.std.proofs.lemmas.List.{length-map}
-use Rattle.std.specs.Prelude.{◌==◌, if◌then◌else◌}
-use Rattle.std.proofs.lemmas.Bool.{eqb-true}
-use Rattle.lua_tree.specs.Tree.{Bytes, UnOp, BinOp, Expr, nil, true_, false_, number, str, dots, function, name, index, call, method, table, unary, binary, paren, Exprs, no_exprs, expr_and, Fields, no_fields, item_and, keyed_and, Func}
-use Rattle.lua_meaning.specs.Value.{Value, first, is_true}
+use Rattle.std.proofs.Common.{ℕ, suc, ◌+◌, ◌≡◌, ◌≤◌, ◌<◌, refl, sym, ap, ◌∙◌, subst, List, [], ◌∷◌, ◌++◌, length, Option, Some, None, Bool, true, false, arith, slice_get}
+use Rattle.lua_tree.specs.Tree.{Bytes, Expr, nil, true_, false_, number, str, dots, function, name, index, call, method, table, unary, binary, paren, Exprs}
+use Rattle.lua_meaning.specs.Value.{Value, first}
 use Rattle.lua_meaning.specs.Store.{cell_value}
-use Rattle.lua_meaning.specs.World.{World, Ends, gives, fails, out_of_steps, needs, ◌>>>◌, Act, one, single}
-use Rattle.lua_meaning.specs.Names.{func_names}
-use Rattle.lua_meaning.specs.Locals.{Env, Slot, held, cell, find, make_function, slot_value}
-use Rattle.lua_meaning.specs.Calls.{Later, Here, call_at}
+use Rattle.lua_meaning.specs.World.{World, gives, one, single}
+use Rattle.lua_meaning.specs.Locals.{Env, Slot, held, cell, find}
+use Rattle.lua_meaning.specs.Calls.{Later, Here}
 use Rattle.lua_meaning.specs.Control.{Game}
-use Rattle.lua_meaning.specs.Operators.{field, unary_value, binary_value, operate}
-use Rattle.lua_meaning.specs.Expressions.{globals, name_value, eval, evals, fill}
+use Rattle.lua_meaning.specs.Operators.{field}
+use Rattle.lua_meaning.specs.Expressions.{globals, name_value, eval, evals}
 use Rattle.lua_code.specs.Instr as i
 use Rattle.lua_code.specs.Instr.{Site, Operand, slot, constant, Instr, file_of, code_of}
 use Rattle.lua_code.specs.Scope.{Scope, slot_count, cell_count, Seat, at_slot, at_cell, seat_of}
-use Rattle.lua_code.specs.Code as c
-use Rattle.lua_code.specs.Code.{ready_seat, ready, seat_slot, ready_slot, unless_ready, place, slot_place, site, settle, name_code, is_many, tailed, count, expr_code, tail_code, exprs_code}
-use Rattle.lua_code.specs.State.{row, Registers, put_slot, State, Running, Frame, waits, lua, Step, on}
-use Rattle.lua_code.specs.Frames.{places, calling}
-use Rattle.lua_code.specs.Doing.{Doing, unary_doing, binary_doing, field_doing}
+use Rattle.lua_code.specs.Code.{ready_seat, ready, seat_slot, ready_slot, unless_ready, place, slot_place, site, name_code, is_many, tailed, count, expr_code, tail_code, exprs_code}
+use Rattle.lua_code.specs.State.{row, Registers, put_slot, Running, Frame, lua, on}
+use Rattle.lua_code.specs.Doing.{field_doing}
 use Rattle.lua_code.specs.Natives.{Program}
-use Rattle.lua_code.specs.Act.{at_pc, at_line, next, operand, act_on, does}
+use Rattle.lua_code.specs.Act.{at_pc, operand, does}
 use Rattle.lua_code.specs.Follows.{state_of, program_of}
-use Rattle.lua_code.proofs.Registers.{Below, Stays, stays_self, stays_on, stays_less, stays_put, put_same, Holds, holds_stays, Reads, reads, SeatBelow, seat_below}
-use Rattle.lua_code.proofs.Goes.{Thread, Comes, comes_self, comes_on, Stands, front, back, stepping, going, left_at, Goes, first_comes, first_stays, both, then_on, one_step}
-use Rattle.lua_code.proofs.Operators.{means, unary_is, binary_is, field_is}
-use Rattle.lua_code.proofs.Calling.{Invokes, same, if_goes, calls_on, Received, to_the_frame}
-use Rattle.lua_code.proofs.Landing.{here_of, Got, got_stays, got_on, lands, LoneIf, held_in, operand_is, goes_at, loads, does_goes}
+use Rattle.lua_code.proofs.Registers.{Stays, stays_self, Holds, Reads, reads, SeatBelow, seat_below}
+use Rattle.lua_code.proofs.Goes.{comes_self, Stands, stepping, going, Goes, first_comes, both, one_step}
+use Rattle.lua_code.proofs.Operators.{means, field_is}
+use Rattle.lua_code.proofs.Calling.{Invokes, same}
+use Rattle.lua_code.proofs.Landing.{here_of, Got, got_stays, LoneIf, held_in, operand_is, goes_at, loads, does_goes}
 
 -- a left operand is below the slot behind it
 slot_low : (o : Option Seat) (slots some h : ℕ) → SeatBelow o slots some → slots ≤ h → slot_place (seat_slot o) h < suc h

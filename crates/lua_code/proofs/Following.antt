@@ -1,36 +1,32 @@
 -- The machine follows the meaning.
-use Rattle.std.proofs.Common.{ℕ, zero, suc, ◌+◌, ◌≡◌, ◌≤◌, ◌<◌, refl, sym, ap, ◌∙◌, subst, List, [], ◌∷◌, ◌++◌, length, map, Option, Some, None, Bool, true, false, arith, slice_get, length-append}
-use Rattle.std.specs.Prelude.{drop}
+use Rattle.std.proofs.Common.{ℕ, zero, suc, ◌+◌, ◌≡◌, ◌≤◌, ◌<◌, refl, sym, ap, ◌∙◌, subst, List, [], ◌∷◌, ◌++◌, length, Some, Bool, true, false, arith, slice_get, length-append}
 use Rattle.lua_tree.specs.Tree.{Bytes, Func, func, Block}
-use Rattle.lua_meaning.specs.Value.{Value, first, num, str}
+use Rattle.lua_meaning.specs.Value.{Value}
 use Rattle.lua_meaning.specs.Store.{Store, Closure}
 use Rattle.lua_meaning.specs.Names.{captured_in}
-use Rattle.lua_meaning.specs.Message.{Ask}
 use Rattle.lua_meaning.specs.Packing.{unpack_all}
-use Rattle.lua_meaning.specs.World.{World, Ends, gives, fails, out_of_steps, needs, ◌>>>◌, Act}
-use Rattle.lua_meaning.specs.Locals.{Env, Slot, held, cell, Flow, normal, broken, returned, values_of, declare, outside}
+use Rattle.lua_meaning.specs.World.{World, Ends, gives, fails, out_of_steps, needs, ◌>>>◌}
+use Rattle.lua_meaning.specs.Locals.{Env, Flow, normal, broken, returned, values_of, declare, outside}
 use Rattle.lua_meaning.specs.Calls as calls
 use Rattle.lua_meaning.specs.Calls.{Calls, Here, Later, Task, invoke, while_turn, repeat_turn, count_turn, each_turn, clear_turn}
 use Rattle.lua_meaning.specs.Control.{Game}
 use Rattle.lua_meaning.specs.Statements.{block}
 use Rattle.lua_meaning.specs.Running as running
 use Rattle.lua_meaning.specs.Running.{run_function, run_callee, run_library, task, within}
-use Rattle.lua_meaning.specs.Run.{Start, first_store, first_world, meant}
-use Rattle.lua_code.specs.Instr as i
-use Rattle.lua_code.specs.Instr.{Instr, instrs_of, list_of, Proto, code_of, file_of}
-use Rattle.lua_code.specs.Scope as scopes
-use Rattle.lua_code.specs.Scope.{Scope, named, slot_count, cell_count, declared, declare_code, around}
-use Rattle.lua_code.specs.Code.{last, block_code, scope_at_end, func_code, chunk_code}
-use Rattle.lua_code.specs.State.{put, put_values, put_all, Registers, State, Running, Frame, Active, lua, library, Step, on, End}
+use Rattle.lua_meaning.specs.Run.{first_store, first_world, meant}
+use Rattle.lua_code.specs.Instr.{Instr, instrs_of, list_of, code_of, file_of}
+use Rattle.lua_code.specs.Scope.{Scope, slot_count, cell_count, declared, declare_code, around}
+use Rattle.lua_code.specs.Code.{last, block_code, func_code, chunk_code}
+use Rattle.lua_code.specs.State.{put, put_all, Registers, Running, Frame, lua, on}
 use Rattle.lua_code.specs.Frames as frames
 use Rattle.lua_code.specs.Frames.{places, begun, entry, finish}
-use Rattle.lua_code.specs.Natives.{Program, serve, asks_for}
-use Rattle.lua_code.specs.Act.{at_pc, turns, exec}
-use Rattle.lua_code.specs.Follows.{cells_of, names_of, made_of, state_of, program_of, callee_of, end_of, no_registers, first_config, Follows}
-use Rattle.lua_code.proofs.Registers.{Below, below_self, below_all, below_values, put_same, Stays, stays_self, Holds}
-use Rattle.lua_code.proofs.Goes.{Thread, Comes, comes_self, comes_on, Stands, front, back, whole, stepping, going, left_at, Goes, first_comes, first_stays, both, then_on, one_step}
+use Rattle.lua_code.specs.Natives.{Program, serve}
+use Rattle.lua_code.specs.Act.{at_pc, turns}
+use Rattle.lua_code.specs.Follows.{cells_of, names_of, state_of, program_of, callee_of, end_of, no_registers, Follows}
+use Rattle.lua_code.proofs.Registers.{below_self, below_all, below_values, put_same, Stays, stays_self, Holds}
+use Rattle.lua_code.proofs.Goes.{Thread, comes_self, Stands, front, back, whole, stepping, going, left_at, Goes, first_comes, first_stays, both, then_on, one_step}
 use Rattle.lua_code.proofs.Landing.{here_of}
-use Rattle.lua_code.proofs.Scopes.{After, Closed, Unmoved, Rowed, rowed_put}
+use Rattle.lua_code.proofs.Scopes.{Closed, Unmoved, Rowed, rowed_put}
 use Rattle.lua_code.proofs.Statements.{declare_goes}
 use Rattle.lua_code.proofs.Claims.{flow_at, while_body, each_turn_code, Claim}
 use Rattle.lua_code.proofs.Loops.{invokes, while_goes, repeat_goes}

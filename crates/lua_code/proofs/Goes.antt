@@ -1,16 +1,14 @@
 -- What the machine comes to, by what a part of a program comes to.
-use Rattle.std.proofs.Common.{ℕ, zero, suc, ◌+◌, ◌≡◌, ◌≤◌, refl, sym, ap, ◌∙◌, subst, List, [], ◌∷◌, ◌++◌, length, Option, Some, None, Bool, true, false, arith, slice_get}
-use Rattle.std.specs.Prelude.{⊤}
-use Rattle.lua_meaning.specs.Value.{Value, first}
-use Rattle.lua_meaning.specs.Message.{Ask}
-use Rattle.lua_meaning.specs.World.{World, Ends, gives, fails, out_of_steps, needs, ◌>>>◌, take_tick, Outcome, given, failed}
+use Rattle.std.proofs.Common.{ℕ, zero, suc, ◌+◌, ◌≡◌, ◌≤◌, refl, ap, ◌∙◌, subst, List, [], ◌∷◌, ◌++◌, length, Option, Some, arith, slice_get}
+use Rattle.lua_meaning.specs.Value.{Value}
+use Rattle.lua_meaning.specs.World.{World, Ends, gives, fails, out_of_steps, needs, ◌>>>◌, take_tick, given, failed}
 use Rattle.lua_code.specs.Instr.{Instr, code_of}
-use Rattle.lua_code.specs.State.{Registers, State, Running, Frame, Active, lua, Config, End, no_ticks, needed, Step, on}
+use Rattle.lua_code.specs.State.{Registers, State, Running, Frame, lua, End, no_ticks, needed, Step}
 use Rattle.lua_code.specs.Frames.{ticking, finish}
 use Rattle.lua_code.specs.Natives.{Program}
 use Rattle.lua_code.specs.Act.{at_pc, act_at, act_on, after, exec}
 use Rattle.lua_code.specs.Follows.{state_of}
-use Rattle.lua_code.proofs.Registers.{Stays, stays_self, stays_on, stays_less}
+use Rattle.lua_code.proofs.Registers.{Stays, stays_on, stays_less}
 
 -- what a machine comes to, in so many steps
 abbrev pub Thread : Type 0

@@ -1,21 +1,21 @@
 -- What expressions leave in registers, and what single instructions lead to.
-use Rattle.std.proofs.Common.{ℕ, zero, suc, ◌+◌, ◌≡◌, ◌≤◌, ◌<◌, refl, sym, ap, ◌∙◌, subst, List, [], ◌∷◌, ◌++◌, length, Option, Some, None, Bool, true, false, arith, slice_get}
+use Rattle.std.proofs.Common.{ℕ, ◌+◌, ◌≡◌, ◌≤◌, ◌<◌, refl, sym, ap, ◌∙◌, subst, List, [], ◌∷◌, Some, Bool, true, false, arith, slice_get}
 use Rattle.std.specs.Prelude.{not, ◌==◌}
 use Rattle.lua_meaning.specs.Value.{Value, flag, first, is_true}
-use Rattle.lua_meaning.specs.World.{World, Ends, gives, fails, out_of_steps, needs, ◌>>>◌}
+use Rattle.lua_meaning.specs.World.{World, gives}
 use Rattle.lua_meaning.specs.Calls.{Later, Here, call_at}
 use Rattle.lua_meaning.specs.Control.{Game}
 use Rattle.lua_code.specs.Instr.{Site, Operand, slot, constant, Instr, file_of, code_of}
-use Rattle.lua_code.specs.State.{Registers, put_slot, State, Running, Frame, waits, lua, Step, on}
-use Rattle.lua_code.specs.Frames.{places, received}
+use Rattle.lua_code.specs.State.{Registers, put_slot, State, Running, Frame, waits, lua, on}
+use Rattle.lua_code.specs.Frames.{places}
 use Rattle.lua_code.specs.Doing.{Use, plain, truth, untruth, Doing, gives as gives_value, faults, asks}
 use Rattle.lua_code.specs.Natives.{Program}
-use Rattle.lua_code.specs.Act.{at_pc, at_line, next, wanted, operand, act_on, does}
+use Rattle.lua_code.specs.Act.{at_pc, at_line, wanted, operand, act_on, does}
 use Rattle.lua_code.specs.Follows.{state_of, program_of}
-use Rattle.lua_code.proofs.Registers.{Below, Stays, stays_self, stays_on, stays_less, stays_put, put_same, put_other, differs}
-use Rattle.lua_code.proofs.Goes.{Thread, Comes, comes_self, comes_on, stepping, going, Goes, both, one_step}
+use Rattle.lua_code.proofs.Registers.{Below, Stays, stays_self, stays_less, stays_put, put_same, put_other, differs}
+use Rattle.lua_code.proofs.Goes.{Comes, comes_self, comes_on, stepping, going, Goes, both, one_step}
 use Rattle.lua_code.proofs.Operators.{used, means}
-use Rattle.lua_code.proofs.Calling.{Invokes, same, calls_on, Received, to_the_frame}
+use Rattle.lua_code.proofs.Calling.{Invokes, calls_on, Received, to_the_frame}
 
 -- what a running function of Lua knows
 abbrev pub here_of : Running → List Frame → Here

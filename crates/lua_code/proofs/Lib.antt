@@ -18,4 +18,5 @@ pub mod Each
 pub mod Blocks
 pub mod Serving
 pub mod Following
+pub mod Talking
 pub mod of_rows

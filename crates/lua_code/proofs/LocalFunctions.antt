@@ -1,32 +1,26 @@
 -- Local functions in the machine come to what they mean.
-use Rattle.std.proofs.Common.{ℕ, zero, suc, ◌+◌, ◌≡◌, ◌≤◌, ◌<◌, refl, sym, ap, ◌∙◌, subst, List, [], ◌∷◌, ◌++◌, length, Option, Some, None, Bool, true, false, arith, slice_get, length-append}
+use Rattle.std.proofs.Common.{ℕ, suc, ◌+◌, ◌≡◌, refl, sym, ap, ◌∙◌, subst, List, ◌∷◌, length, Some, true, arith}
 use Rattle.std.specs.Prelude.{if◌then◌else◌, bytes_eq}
 use Rattle.std.proofs.lemmas.Slice.Eq.{bytes_eq-Decides}
-use Rattle.lua_tree.specs.Tree.{Bytes, Expr, function, Func, local_function}
+use Rattle.lua_tree.specs.Tree.{Bytes}
 use Rattle.lua_meaning.specs.Value.{Value}
 use Rattle.lua_meaning.specs.Store.{set_cell}
-use Rattle.lua_meaning.specs.Names.{is_captured, func_names}
-use Rattle.lua_meaning.specs.World.{World, Ends, gives, ◌>>>◌, Act, one}
-use Rattle.lua_meaning.specs.Locals.{Env, Slot, held, cell, Flow, normal, find, holding, set_local, set_found, make_slot}
+use Rattle.lua_meaning.specs.World.{World, gives}
+use Rattle.lua_meaning.specs.Locals.{Env, Slot, held, cell, find, holding, set_local, set_found}
 use Rattle.lua_meaning.specs.Calls.{Later, Here}
 use Rattle.lua_meaning.specs.Control.{Game}
-use Rattle.lua_meaning.specs.Expressions.{eval}
 use Rattle.lua_code.specs.Instr as i
 use Rattle.lua_code.specs.Instr.{Instr, file_of, code_of, slot, constant}
-use Rattle.lua_code.specs.Scope.{Kind, in_slot, in_cell, outside, Scope, named, slot_count, cell_count, kind_of, cell_code, seat_behind, seat_of}
-use Rattle.lua_code.specs.Code.{local_code, expr_code}
-use Rattle.lua_code.specs.State.{Registers, put_slot, Running, Frame, lua, on}
+use Rattle.lua_code.specs.Scope.{Kind, in_slot, in_cell, outside, Scope, named, slot_count, cell_count, seat_behind, seat_of}
+use Rattle.lua_code.specs.Code.{local_code}
+use Rattle.lua_code.specs.State.{Registers, Running, Frame, lua, on}
 use Rattle.lua_code.specs.Natives.{Program}
 use Rattle.lua_code.specs.Act.{at_pc}
 use Rattle.lua_code.specs.Follows.{state_of, program_of}
-use Rattle.lua_code.proofs.Registers.{Below, differs, Stays, stays_self, stays_on, stays_put, put_same, At, Holds, holds_stays}
-use Rattle.lua_code.proofs.Goes.{Thread, Comes, comes_self, comes_on, Stands, front, back, going, Goes, first_comes, first_stays, both, one_step}
+use Rattle.lua_code.proofs.Registers.{differs, Stays, stays_self, At, Holds, holds_stays}
+use Rattle.lua_code.proofs.Goes.{comes_on, Stands, going, Goes, one_step}
 use Rattle.lua_code.proofs.Calling.{Invokes}
 use Rattle.lua_code.proofs.Landing.{here_of, Got, goes_at}
-use Rattle.lua_code.proofs.Nodes.{weaken, expr_goes}
-use Rattle.lua_code.proofs.Scopes.{Unmoved, unmoved_below}
-use Rattle.lua_code.proofs.Statements.{one_declared, slots_one}
-use Rattle.lua_code.proofs.Claims.{Does, flow_at}
 
 bytes_same : (x : Bytes) → bytes_eq x x ≡ true
 bytes_same x = (bytes_eq-Decides x x).1 refl

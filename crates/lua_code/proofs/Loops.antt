@@ -1,9 +1,9 @@
 -- Loops in the machine come to what they mean.
-use Rattle.std.proofs.Common.{ℕ, zero, suc, ◌+◌, ◌-◌, ◌≡◌, ◌≤◌, ◌<◌, refl, sym, ap, ◌∙◌, subst, List, [], ◌∷◌, ◌++◌, length, map, Option, Some, None, Bool, true, false, arith, slice_get, length-append, append_assoc}
+use Rattle.std.proofs.Common.{ℕ, suc, ◌+◌, ◌-◌, ◌≡◌, ◌≤◌, refl, sym, ap, subst, List, [], ◌∷◌, ◌++◌, length, Bool, true, false, arith, length-append}
 use Rattle.std.specs.Prelude.{if◌then◌else◌}
-use Rattle.lua_tree.specs.Tree.{Bytes, Expr, Exprs, Block, Func}
-use Rattle.lua_meaning.specs.Value.{Value, first, is_true}
-use Rattle.lua_meaning.specs.World.{World, Ends, gives, fails, out_of_steps, needs, ◌>>>◌, ◌>>=◌, Act, give, one, take_tick}
+use Rattle.lua_tree.specs.Tree.{Bytes, Expr, Block}
+use Rattle.lua_meaning.specs.Value.{Value, is_true}
+use Rattle.lua_meaning.specs.World.{World, gives, ◌>>>◌, ◌>>=◌, Act, give, one, take_tick}
 use Rattle.lua_meaning.specs.Names.{captured_in, expr_names}
 use Rattle.lua_meaning.specs.Locals.{Env, Flow, normal, broken, returned, declare, closed, outer}
 use Rattle.lua_meaning.specs.Calls.{Later, Here, Task, invoke, while_turn, repeat_turn}
@@ -14,19 +14,19 @@ use Rattle.lua_meaning.specs.Running.{turn, looped, while_true, until}
 use Rattle.lua_code.specs.Instr as i
 use Rattle.lua_code.specs.Instr.{Instr, file_of, code_of}
 use Rattle.lua_code.specs.Scope.{Scope, slot_count, cell_count, declared, declare_code}
-use Rattle.lua_code.specs.Code.{ready_slot, slot_place, block_code, scope_at_end}
+use Rattle.lua_code.specs.Code.{ready_slot, slot_place, block_code}
 use Rattle.lua_code.specs.State.{Registers, State, Running, Frame, lua, Step, on}
 use Rattle.lua_code.specs.Frames.{places, ticking}
 use Rattle.lua_code.specs.Natives.{Program}
-use Rattle.lua_code.specs.Act.{at_pc, act_on, returns}
+use Rattle.lua_code.specs.Act.{at_pc, returns}
 use Rattle.lua_code.specs.Follows.{state_of, program_of}
-use Rattle.lua_code.proofs.Registers.{Stays, stays_self, stays_on, stays_less, Holds, holds_stays}
-use Rattle.lua_code.proofs.Goes.{Thread, Comes, comes_self, comes_on, Stands, front, back, stepping, going, left_at, Goes, first_comes, both, then_on, one_step, tick_goes}
+use Rattle.lua_code.proofs.Registers.{Stays, stays_self, Holds, holds_stays}
+use Rattle.lua_code.proofs.Goes.{Thread, comes_self, Stands, front, back, stepping, going, Goes, first_comes, both, one_step, tick_goes}
 use Rattle.lua_code.proofs.Calling.{Invokes}
 use Rattle.lua_code.proofs.Landing.{here_of, goes_at}
 use Rattle.lua_code.proofs.Expressions.{left}
 use Rattle.lua_code.proofs.Nodes.{weaken, single_on, expr_goes}
-use Rattle.lua_code.proofs.Scopes.{After, Closed, Unmoved, unmoved_below, unmoved_self, unmoved_on, unmoved_outer, after_closed, outer_holds, declared_more, end_more, Rowed}
+use Rattle.lua_code.proofs.Scopes.{After, Closed, Unmoved, unmoved_below, unmoved_self, unmoved_on, unmoved_outer, outer_holds, declared_more, end_more, Rowed}
 use Rattle.lua_code.proofs.Statements.{declare_goes, scoped_goes}
 use Rattle.lua_code.proofs.Claims.{flow_at, test_code, while_body, while_code, repeat_scope, repeat_body, repeat_code, turn_code, Claim, Runs}
 

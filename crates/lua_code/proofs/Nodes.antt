@@ -1,9 +1,9 @@
 -- Each kind of expression in the machine comes to what it means.
-use Rattle.std.proofs.Common.{ℕ, zero, suc, ◌+◌, ◌≡◌, ◌≤◌, ◌<◌, refl, sym, ap, ◌∙◌, subst, List, [], ◌∷◌, ◌++◌, length, map, Option, Some, None, Bool, true, false, arith, slice_get, length-append}
-use Rattle.std.proofs.lemmas.List.{length-map, append-nil}
-use Rattle.std.specs.Prelude.{◌==◌, if◌then◌else◌, codes, ⊤}
+use Rattle.std.proofs.Common.{ℕ, suc, ◌+◌, ◌≡◌, ◌≤◌, ◌<◌, refl, sym, ap, ◌∙◌, subst, List, [], ◌∷◌, ◌++◌, length, map, Option, Some, None, Bool, true, false, arith, slice_get, length-append}
+use Rattle.std.proofs.lemmas.List.{length-map}
+use Rattle.std.specs.Prelude.{◌==◌, if◌then◌else◌}
 use Rattle.std.proofs.lemmas.Bool.{eqb-true}
-use Rattle.lua_tree.specs.Tree.{Bytes, UnOp, BinOp, Expr, nil, true_, false_, number, str, dots, function, name, index, call, method, table, unary, binary, paren, Exprs, no_exprs, expr_and, Fields, no_fields, item_and, keyed_and, Func}
+use Rattle.lua_tree.specs.Tree.{Bytes, BinOp, Expr, nil, true_, false_, number, str, dots, function, name, index, call, method, table, unary, binary, paren, Exprs, no_exprs, expr_and, Fields, no_fields, item_and, keyed_and}
 use Rattle.lua_meaning.specs.Value.{Value, first, is_true}
 use Rattle.lua_meaning.specs.Store.{Closure, add_table, raw_set}
 use Rattle.lua_meaning.specs.World.{World, Ends, gives, fails, out_of_steps, needs, ◌>>>◌, Act, one, single}
@@ -14,25 +14,25 @@ use Rattle.lua_meaning.specs.Locals.{Env, find}
 use Rattle.lua_meaning.specs.Calls.{Later, Here, call_at}
 use Rattle.lua_meaning.specs.Control.{Game}
 use Rattle.lua_meaning.specs.Operators.{field, unary_value, binary_value, operate, set_raw}
-use Rattle.lua_meaning.specs.Expressions.{eval, evals, fill, join, item_values}
+use Rattle.lua_meaning.specs.Expressions.{eval, evals, fill}
 use Rattle.lua_code.specs.Instr as i
 use Rattle.lua_code.specs.Instr.{Site, Wants, Operand, slot, constant, Instr, file_of, code_of}
 use Rattle.lua_code.specs.Scope.{Scope, slot_count, cell_count, Seat, at_slot, at_cell, seat_of, cell_names, cell_places}
-use Rattle.lua_code.specs.Code.{ready_seat, ready, ready_slot, unless_ready, place, slot_place, site, settle, is_many, tailed, count, in_list, in_fields, func_code, expr_code, tail_code, exprs_code, fields_code}
-use Rattle.lua_code.specs.State.{row, Registers, put_slot, with_tail, State, Running, Frame, waits, lua, Step, on}
-use Rattle.lua_code.specs.Frames.{places, calling}
+use Rattle.lua_code.specs.Code.{ready_seat, ready, ready_slot, unless_ready, place, slot_place, site, settle, is_many, tailed, count, func_code, expr_code, tail_code, exprs_code, fields_code}
+use Rattle.lua_code.specs.State.{Registers, put_slot, with_tail, State, Running, Frame, waits, lua, on}
+use Rattle.lua_code.specs.Frames.{calling}
 use Rattle.lua_code.specs.Doing as doing
 use Rattle.lua_code.specs.Doing.{unary_doing, binary_doing, field_doing}
 use Rattle.lua_code.specs.Natives.{Program}
-use Rattle.lua_code.specs.Act.{at_pc, at_line, next, operand, act_on, does, list, sets_raw, stores, in_table, sets_new, jumps}
+use Rattle.lua_code.specs.Act.{at_pc, at_line, operand, act_on, does, list, sets_raw, stores, in_table, sets_new, jumps}
 use Rattle.lua_code.specs.Follows.{made_of, state_of, program_of}
-use Rattle.lua_code.proofs.Registers.{Below, Stays, stays_self, stays_on, stays_less, stays_put, stays_tail, Holds, holds_stays, reads, SeatBelow, seat_below, differs, differs_above}
-use Rattle.lua_code.proofs.Goes.{Thread, Comes, comes_self, comes_on, Stands, front, back, stepping, going, Goes, first_comes, first_stays, both, then_on, one_step}
+use Rattle.lua_code.proofs.Registers.{Stays, stays_self, stays_on, stays_less, stays_put, stays_tail, Holds, holds_stays, reads, SeatBelow, seat_below, differs, differs_above}
+use Rattle.lua_code.proofs.Goes.{Thread, comes_self, comes_on, Stands, front, back, stepping, going, Goes, first_comes, first_stays, both, then_on, one_step}
 use Rattle.lua_code.proofs.Operators.{means, unary_is, binary_is, field_is}
-use Rattle.lua_code.proofs.Calling.{Invokes, same, if_goes, calls_on, Received, to_the_frame}
+use Rattle.lua_code.proofs.Calling.{Invokes, calls_on, Received, to_the_frame}
 use Rattle.lua_code.proofs.Landing.{here_of, Got, got_stays, got_on, lands, LoneIf, held_in, operand_is, goes_at, loads, does_goes}
 use Rattle.lua_code.proofs.Closures.{one_made}
-use Rattle.lua_code.proofs.Expressions.{left_low, listed, Gets, Tails, Lists, left, right, evaluated, field_goes, name_goes}
+use Rattle.lua_code.proofs.Expressions.{left_low, listed, Gets, Tails, Lists, left, right, evaluated, name_goes}
 
 abbrev No : Bool → Type 0
 No true = ⊥

@@ -1,12 +1,11 @@
 -- Operators and fields do in the machine what they mean.
-use Rattle.std.proofs.Common.{ℕ, ◌≡◌, refl, sym, ap, ◌∙◌, List, [], ◌∷◌, Option, Some, None, Bool, true, false, Result, Ok, Err, ℤ}
+use Rattle.std.proofs.Common.{ℕ, ◌≡◌, refl, ap, ◌∙◌, List, [], ◌∷◌, Option, Some, None, Bool, true, false, Result, Ok, Err, ℤ}
 use Rattle.std.specs.Prelude.{not, if◌then◌else◌, codes}
 use Rattle.lua_value.specs.Arithmetic as arithmetic
 use Rattle.lua_value.specs.declared.arithmetic.NumFault.{NumFault}
 use Rattle.lua_tree.specs.Tree.{Bytes, UnOp, BinOp}
-use Rattle.lua_meaning.specs.Value.{Value, nil, flag, num, str, table, func, native, channel, thread, datum, is_true, first, same}
-use Rattle.lua_meaning.specs.Text.{as_number, as_text, longest_string}
-use Rattle.lua_meaning.specs.Store.{Store, handler}
+use Rattle.lua_meaning.specs.Value.{Value, nil, flag, str, table, is_true, first, same}
+use Rattle.lua_meaning.specs.Text.{as_number, as_text}
 use Rattle.lua_meaning.specs.World.{World, Ends, gives, fails, out_of_steps, needs, ◌>>>◌, Act, ◌>>=◌, give}
 use Rattle.lua_meaning.specs.Handlers as handlers
 use Rattle.lua_meaning.specs.Handlers.{Lookup, lookup, is_function}

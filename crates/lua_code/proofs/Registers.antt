@@ -1,12 +1,12 @@
 -- What stands in registers, and what stays there.
-use Rattle.std.proofs.Common.{ℕ, zero, suc, ◌+◌, ◌-◌, ◌≡◌, ◌≤◌, ◌<◌, refl, sym, ap, ◌∙◌, subst, List, [], ◌∷◌, ◌++◌, length, Option, Some, None, Bool, true, false, arith}
+use Rattle.std.proofs.Common.{ℕ, zero, suc, ◌+◌, ◌≡◌, ◌≤◌, ◌<◌, refl, ap, ◌∙◌, subst, List, [], ◌∷◌, Option, Some, None, Bool, true, false, arith}
 use Rattle.std.proofs.lemmas.Bool.{eq-eqb, eqb-true}
 use Rattle.std.specs.Prelude.{if◌then◌else◌, ◌==◌, drop, bytes_eq}
 use Rattle.lua_tree.specs.Tree.{Bytes}
 use Rattle.lua_meaning.specs.Value.{Value, first}
 use Rattle.lua_meaning.specs.Locals.{Env, Slot, held, cell, find}
-use Rattle.lua_code.specs.Scope.{Kind, in_slot, in_cell, outside, Entry, named, hidden, Scope, slot_count, cell_count, Seat, at_slot, at_cell, seat_behind, seat_of}
-use Rattle.lua_code.specs.State.{put, put_values, put_all, row, Registers, with_slots, with_cells, with_tail, put_slot}
+use Rattle.lua_code.specs.Scope.{Kind, in_slot, in_cell, outside, named, hidden, Scope, slot_count, cell_count, Seat, at_slot, at_cell, seat_behind, seat_of}
+use Rattle.lua_code.specs.State.{put, put_values, put_all, Registers, with_slots, with_tail, put_slot}
 
 -- ---- lists without an end
 

@@ -1,12 +1,11 @@
 -- Locals that are declared, and those that are gone behind a block.
-use Rattle.std.proofs.Common.{ℕ, zero, suc, ◌+◌, ◌-◌, ◌≡◌, ◌≤◌, ◌<◌, refl, sym, ap, ◌∙◌, subst, List, [], ◌∷◌, ◌++◌, length, Option, Some, None, Bool, true, false, arith, append_assoc}
-use Rattle.std.specs.Prelude.{if◌then◌else◌, ◌==◌, drop}
-use Rattle.std.proofs.lemmas.Bool.{eqb-true}
+use Rattle.std.proofs.Common.{ℕ, zero, suc, ◌+◌, ◌-◌, ◌≡◌, ◌≤◌, refl, sym, ap, ◌∙◌, subst, List, [], ◌∷◌, ◌++◌, length, false, arith, append_assoc}
+use Rattle.std.specs.Prelude.{drop}
 use Rattle.lua_tree.specs.Tree.{Bytes, Stat, assign, local, call_stat, do_block, while_loop, repeat_loop, if_stat, num_for, num_for_by, gen_for, function_stat, local_function, return_stat, break_stat, Block, no_stats, stat_and}
 use Rattle.lua_meaning.specs.Value.{Value, first}
 use Rattle.lua_meaning.specs.Names.{is_captured, block_names, func_names}
-use Rattle.lua_meaning.specs.Locals.{Env, Slot, held, cell, Flow, normal, broken, returned, outer, closed}
-use Rattle.lua_code.specs.Scope.{Kind, in_slot, in_cell, outside, Entry, named, hidden, Scope, slot_count, cell_count, kind_of, declared}
+use Rattle.lua_meaning.specs.Locals.{Env, Flow, normal, broken, returned, outer, closed}
+use Rattle.lua_code.specs.Scope.{in_slot, in_cell, outside, named, hidden, Scope, slot_count, kind_of, declared}
 use Rattle.lua_code.specs.Code.{scope_behind, scope_at_end}
 use Rattle.lua_code.specs.State.{put, put_values, row, Registers, Running}
 use Rattle.lua_code.proofs.Registers.{Below, below_self, below_values, put_same, Holds}

@@ -1,36 +1,35 @@
 -- Functions of the library do in the machine what they mean.
 use Rattle.std.proofs.lemmas.List.{append-nil}
-use Rattle.std.proofs.Common.{ℕ, zero, suc, ◌+◌, ◌≡◌, ◌≤◌, refl, sym, ap, ◌∙◌, subst, List, [], ◌∷◌, ◌++◌, length, map, Option, Some, None, option_map, Bool, true, false, Result, Ok, Err, arith, append_assoc}
-use Rattle.std.specs.Prelude.{if◌then◌else◌, drop, nat_eq, bytes_eq, codes, pos, ⊤}
+use Rattle.std.proofs.Common.{ℕ, suc, ◌≡◌, ◌≤◌, refl, sym, ap, ◌∙◌, subst, List, [], ◌∷◌, ◌++◌, length, map, Option, Some, None, option_map, Bool, true, false, Result, Ok, Err, arith, append_assoc}
+use Rattle.std.specs.Prelude.{if◌then◌else◌, drop, nat_eq, bytes_eq, codes, pos}
 use Rattle.love_base.specs.Data.{Contents}
 use Rattle.lua_tree.specs.Tree.{Bytes}
 use Rattle.lua_meaning.specs.Native.{Native}
-use Rattle.lua_meaning.specs.Value.{Value, nil, flag, num, str, table, native, channel, thread, first}
+use Rattle.lua_meaning.specs.Value.{Value, nil, flag, num, str, native, channel, thread, first}
 use Rattle.lua_meaning.specs.Text.{as_text}
 use Rattle.lua_meaning.specs.Store.{Store, handler}
 use Rattle.lua_meaning.specs.Message.{Message, Source, Event, Ask, Reply}
 use Rattle.lua_meaning.specs.Packing.{PackFault, pack, pack_all, unpack, unpack_all}
-use Rattle.lua_meaning.specs.World.{World, Ends, gives, fails, out_of_steps, needs, ◌>>>◌, Act, Outcome, given, failed, caught, Module, begun, loaded, asking, answered as asked_for, tick, take_tick}
-use Rattle.lua_meaning.specs.Fault.{Place, placed}
+use Rattle.lua_meaning.specs.World.{World, Ends, gives, fails, out_of_steps, needs, ◌>>>◌, Act, given, failed, caught, Module, begun, loaded, asking, answered as asked_for}
 use Rattle.lua_meaning.specs.Arguments.{Lib, Answer, answers, faults, argument, number_or, number_argument, text_argument}
 use Rattle.lua_meaning.specs.LoveArguments.{channel_argument, thread_argument, limit_argument, function_argument, status_argument}
 use Rattle.lua_meaning.specs.Strings.{string_value}
 use Rattle.lua_meaning.specs.Data.{new_data}
-use Rattle.lua_meaning.specs.Locals.{Flow, values_of}
-use Rattle.lua_meaning.specs.Calls.{Calls, Later, Task, results, chunk, enter, call, call_back, clear_turn}
+use Rattle.lua_meaning.specs.Locals.{values_of}
+use Rattle.lua_meaning.specs.Calls.{Calls, Later, results, chunk, enter, call_back, clear_turn}
 use Rattle.lua_meaning.specs.Control as control
 use Rattle.lua_meaning.specs.Control.{Game, tried, value_text, line_of}
 use Rattle.lua_meaning.specs.Love as love
 use Rattle.lua_meaning.specs.Library.{library as library_function}
 use Rattle.lua_meaning.specs.Running.{run_library}
-use Rattle.lua_code.specs.State.{Registers, State, Duty, tries, converts, prints, requires, guards, Frame, serves, Errand, gives_values, awaits, gives_waited, enters, comes_out, gives_true, clears, Pending, End, needed, Step, asks}
-use Rattle.lua_code.specs.Frames.{places, finish, calling, calling_with, by_text, printing, printed, raised}
+use Rattle.lua_code.specs.State.{Registers, State, Duty, tries, converts, prints, requires, guards, Frame, serves, Errand, gives_values, awaits, gives_waited, enters, comes_out, gives_true, clears, Step}
+use Rattle.lua_code.specs.Frames.{places, finish, calling_with, by_text, printing, printed, raised}
 use Rattle.lua_code.specs.Natives as natives
 use Rattle.lua_code.specs.Natives.{Program, asks_for, calls_back, attend, reply_values, resume}
 use Rattle.lua_code.specs.Act.{after, exec}
 use Rattle.lua_code.specs.Follows.{state_of, file_code, file_of, program_of}
-use Rattle.lua_code.proofs.Registers.{Stays, stays_self}
-use Rattle.lua_code.proofs.Goes.{Thread, Comes, comes_self, stepping, left_at, failing, Goes, first_comes, first_stays, spend, both, tick_goes}
+use Rattle.lua_code.proofs.Registers.{stays_self}
+use Rattle.lua_code.proofs.Goes.{Thread, comes_self, stepping, left_at, failing, Goes, first_comes, first_stays, spend, both, tick_goes}
 use Rattle.lua_code.proofs.Calling.{Invokes, enters as enters_call, calls_on, calls_with}
 
 -- ---- results for a library function that waits

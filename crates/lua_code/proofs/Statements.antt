@@ -1,35 +1,33 @@
 -- What statements are made of comes in the machine to what it means.
-use Rattle.std.proofs.Common.{ℕ, zero, suc, ◌+◌, ◌-◌, ◌≡◌, ◌≤◌, ◌<◌, refl, sym, ap, ◌∙◌, subst, List, [], ◌∷◌, ◌++◌, length, map, Option, Some, None, Bool, true, false, arith, slice_get, length-append, append_assoc}
+use Rattle.std.proofs.Common.{ℕ, suc, ◌+◌, ◌-◌, ◌≡◌, ◌≤◌, refl, sym, ap, ◌∙◌, subst, List, [], ◌∷◌, ◌++◌, length, Bool, true, false, arith, length-append, append_assoc}
 use Rattle.std.specs.Prelude.{◌==◌, if◌then◌else◌, drop}
 use Rattle.std.proofs.lemmas.Bool.{eqb-true}
-use Rattle.lua_tree.specs.Tree.{Bytes, Expr, Exprs, Block, Func}
-use Rattle.lua_meaning.specs.Value.{Value, first, is_true}
+use Rattle.lua_tree.specs.Tree.{Bytes, Exprs, Block}
+use Rattle.lua_meaning.specs.Value.{Value, first}
 use Rattle.lua_meaning.specs.Store.{add_cell}
-use Rattle.lua_meaning.specs.World.{World, Ends, gives, fails, out_of_steps, needs, ◌>>>◌, Act, one, take_tick}
-use Rattle.lua_meaning.specs.Names.{is_captured, captured_in}
-use Rattle.lua_meaning.specs.Locals.{Env, Slot, held, cell, Flow, normal, broken, returned, make_slot, declare, closed, go_on}
-use Rattle.lua_meaning.specs.Calls.{Later, Here, Task}
+use Rattle.lua_meaning.specs.World.{World, gives, ◌>>>◌}
+use Rattle.lua_meaning.specs.Names.{is_captured}
+use Rattle.lua_meaning.specs.Locals.{Env, Flow, normal, broken, returned, make_slot, declare, closed}
+use Rattle.lua_meaning.specs.Calls.{Later, Here}
 use Rattle.lua_meaning.specs.Control.{Game}
-use Rattle.lua_meaning.specs.Expressions.{eval, evals}
+use Rattle.lua_meaning.specs.Expressions.{evals}
 use Rattle.lua_meaning.specs.Statements.{block}
-use Rattle.lua_meaning.specs.Running.{turn}
 use Rattle.lua_code.specs.Instr as i
 use Rattle.lua_code.specs.Instr.{Instr, file_of, code_of}
-use Rattle.lua_code.specs.Scope.{Kind, in_slot, in_cell, outside, Scope, named, slot_count, cell_count, kind_of, cell_code, declared, declare_code}
+use Rattle.lua_code.specs.Scope.{Scope, named, slot_count, cell_count, kind_of, cell_code, declared, declare_code}
 use Rattle.lua_code.specs.Code.{fitted, tailed, count, exprs_code, block_code, scope_at_end}
-use Rattle.lua_code.specs.State.{put, put_values, row, Registers, with_slots, with_cells, State, Running, Frame, lua, Step, on}
-use Rattle.lua_code.specs.Frames.{ticking}
+use Rattle.lua_code.specs.State.{put, put_values, Registers, with_slots, with_cells, Running, Frame, lua, on}
 use Rattle.lua_code.specs.Natives.{Program}
-use Rattle.lua_code.specs.Act.{at_pc, act_on}
+use Rattle.lua_code.specs.Act.{at_pc}
 use Rattle.lua_code.specs.Follows.{state_of, program_of}
 use Rattle.lua_code.proofs.Registers.{Below, below_self, below_put, Stays, stays_self, stays_on, stays_less, stays_values, put_same, Holds, holds_stays}
-use Rattle.lua_code.proofs.Goes.{Thread, Comes, comes_self, comes_on, Stands, front, back, stepping, going, left_at, Goes, first_comes, first_stays, both, then_on, one_step, tick_goes}
+use Rattle.lua_code.proofs.Goes.{Comes, comes_self, comes_on, Stands, front, back, going, Goes, both, then_on, one_step}
 use Rattle.lua_code.proofs.Calling.{Invokes}
 use Rattle.lua_code.proofs.Landing.{here_of, goes_at}
 use Rattle.lua_code.proofs.Expressions.{listed}
 use Rattle.lua_code.proofs.Nodes.{weaken, exprs_goes}
-use Rattle.lua_code.proofs.Scopes.{After, Closed, Unmoved, unmoved_outer, after_less, closed_after, end_more, Rowed, rowed, rowed_all}
-use Rattle.lua_code.proofs.Claims.{flow_at, turn_code, Runs}
+use Rattle.lua_code.proofs.Scopes.{Closed, Unmoved, unmoved_outer, after_less, closed_after, end_more, Rowed, rowed, rowed_all}
+use Rattle.lua_code.proofs.Claims.{flow_at, Runs}
 
 pub stays_cell : (r t : Registers) (low some k c : ℕ) → some ≤ k → Stays r t low some → Stays r (with_cells t (put t.cells k c)) low some
 stays_cell r t low some k c l x = record { slots = x.slots; cells = below_put r.cells t.cells some k c l x.cells }

@@ -1,12 +1,12 @@
 -- A local gets a value in the machine as it does in the meaning.
-use Rattle.std.proofs.Common.{ℕ, zero, suc, ◌+◌, ◌≡◌, ◌≤◌, ◌<◌, refl, sym, ap, ◌∙◌, subst, List, [], ◌∷◌, Option, Some, None, Bool, true, false, arith}
+use Rattle.std.proofs.Common.{ℕ, ◌+◌, ◌≡◌, ◌<◌, refl, sym, ap, ◌∙◌, subst, [], ◌∷◌, Option, Some, None, Bool, true, false, arith}
 use Rattle.std.specs.Prelude.{if◌then◌else◌, bytes_eq}
 use Rattle.lua_tree.specs.Tree.{Bytes}
 use Rattle.lua_meaning.specs.Value.{Value}
 use Rattle.lua_meaning.specs.Locals.{Env, Slot, held, cell, holding}
-use Rattle.lua_code.specs.Scope.{Kind, in_slot, in_cell, outside, Entry, named, hidden, Scope, slot_count, cell_count, Seat, at_slot, at_cell, seat_behind, seat_of}
-use Rattle.lua_code.specs.State.{put, Registers, put_slot}
-use Rattle.lua_code.proofs.Registers.{Below, below_self, below_put, put_same, put_other, differs, differs_above, Stays, stays_self, stays_put, At, Holds, holds_stays, SeatBelow, seat_below}
+use Rattle.lua_code.specs.Scope.{Kind, in_slot, in_cell, outside, named, hidden, Scope, slot_count, cell_count, Seat, at_slot, at_cell, seat_behind, seat_of}
+use Rattle.lua_code.specs.State.{Registers, put_slot}
+use Rattle.lua_code.proofs.Registers.{below_self, below_put, put_same, put_other, differs_above, stays_self, stays_put, At, Holds, holds_stays, SeatBelow, seat_below}
 use Rattle.lua_code.proofs.Scopes.{Unmoved, unmoved_below}
 
 -- ---- seats that are the same

@@ -7,4 +7,5 @@ pub mod Doing
 pub mod Natives
 pub mod Act
 pub mod Follows
+pub mod Talks
 pub mod rows
