@@ -12,7 +12,7 @@ use Rattle.love_base.specs.Prefix.{IsPrefix}
 use Rattle.std.specs.Bool.{Decides}
 use Rattle.lua_table.specs.Table.{Places, get, has_place, clear_key, set as set_key, value_at as at_position_value, run_length, border as least_border}
 use Rattle.lua_tree.specs.Tree.{Bytes}
-use Rattle.lua_meaning.specs.Store.{Store, Closure, Table, table_at, raw_get, raw_set, with_value, position, border, set_table, set_cell, set_meta, no_table}
+use Rattle.lua_meaning.specs.Store.{Store, Table, table_at, raw_get, raw_set, with_value, position, border, set_table, set_cell, set_meta, no_table}
 use Rattle.lua_heap.specs.declared.entries.Function.{Function}
 use Rattle.lua_heap.specs.declared.entries.TableEntry.{TableEntry}
 use Rattle.lua_heap.specs.declared.value.Value.{Value}
@@ -167,14 +167,14 @@ module _ (h : HeapView) (is : IsHeap h) where
       }
 
   -- a longer list of texts changes nothing that the store says
-  pub store_of-with-texts : (texts rest : List Bytes) → texts ≡ h.texts ++ rest → (closure : Function → Closure)
-      → store_of closure (record { texts = texts; tables = h.tables; cells = h.cells; functions = h.functions; contents = h.contents }) ≡ store_of closure h
-  store_of-with-texts texts rest grown closure =
-      let Of : List Bytes → Store = λ ts. store_of closure (record { texts = ts; tables = h.tables; cells = h.cells; functions = h.functions; contents = h.contents }) in
+  pub store_of-with-texts : (texts rest : List Bytes) → texts ≡ h.texts ++ rest
+      → store_of (record { texts = texts; tables = h.tables; cells = h.cells; functions = h.functions; contents = h.contents }) ≡ store_of h
+  store_of-with-texts texts rest grown =
+      let Of : List Bytes → Store = λ ts. store_of (record { texts = ts; tables = h.tables; cells = h.cells; functions = h.functions; contents = h.contents }) in
       let tables = tables_longer h.tables is.tables in
       let cells = values_view-longer h.texts rest (counts h) refl h.cells is.cells in
-      ap Of grown ∙ (let P : List Table → Store = λ ts. record { tables = ts; cells = map (value_view (h.texts ++ rest)) h.cells; functions = map closure h.functions; contents = h.contents } in
-      let Q : List meant.Value → Store = λ vs. record { tables = map (table_view h.texts) h.tables; cells = vs; functions = map closure h.functions; contents = h.contents } in
+      ap Of grown ∙ (let P : List Table → Store = λ ts. record { tables = ts; cells = map (value_view (h.texts ++ rest)) h.cells; contents = h.contents } in
+      let Q : List meant.Value → Store = λ vs. record { tables = map (table_view h.texts) h.tables; cells = vs; contents = h.contents } in
       ap P tables ∙ ap Q cells)
     where
       tables_longer : (es : List TableEntry) → AllByRecursion (IsMadeEntry (counts h)) es → map (table_view (h.texts ++ rest)) es ≡ map (table_view h.texts) es
@@ -188,20 +188,21 @@ module _ (h : HeapView) (is : IsHeap h) where
 
 -- ---- the store
 
-pub table_at-view : (closure : Function → Closure) (h : HeapView) (t : ℕ) (entry : TableEntry) → slice_get h.tables t ≡ Some entry → table_at (store_of closure h) t ≡ table_view h.texts entry
-table_at-view closure h t entry there =
+pub table_at-view : (h : HeapView) (t : ℕ) (entry : TableEntry) → slice_get h.tables t ≡ Some entry → table_at (store_of h) t ≡ table_view h.texts entry
+table_at-view h t entry there =
     ap (λ o. unwrap_or o no_table) (slice_get-map (table_view h.texts) h.tables t ∙ ap (λ o. option_map (table_view h.texts) o) there)
 
 pub Becomes-set_cell : (h g : HeapView) (i j : ℕ) (v : Value) → h ≡ g → i ≡ j
-    → Becomes g (record { texts = h.texts; tables = h.tables; cells = set h.cells i v; functions = h.functions; contents = h.contents }) (λ closure s. set_cell s j (value_view g.texts v))
+    → Becomes g (record { texts = h.texts; tables = h.tables; cells = set h.cells i v; functions = h.functions; contents = h.contents }) (λ s. set_cell s j (value_view g.texts v))
 Becomes-set_cell h g i j v same at =
     let new : HeapView = record { texts = h.texts; tables = h.tables; cells = set h.cells i v; functions = h.functions; contents = h.contents } in
-    let P : HeapView → Type 0 = λ k. Becomes k new (λ closure s. set_cell s j (value_view k.texts v)) in
-    let Q : ℕ → Type 0 = λ n. Becomes h new (λ closure s. set_cell s n (value_view h.texts v)) in
+    let P : HeapView → Type 0 = λ k. Becomes k new (λ s. set_cell s j (value_view k.texts v)) in
+    let Q : ℕ → Type 0 = λ n. Becomes h new (λ s. set_cell s n (value_view h.texts v)) in
     subst P same (subst Q at (record {
       texts = refl;
-      store = λ closure.
-          let Of : List meant.Value → Store = λ vs. record { tables = map (table_view h.texts) h.tables; cells = vs; functions = map closure h.functions; contents = h.contents } in
+      functions = refl;
+      store =
+          let Of : List meant.Value → Store = λ vs. record { tables = map (table_view h.texts) h.tables; cells = vs; contents = h.contents } in
           ap Of (map-set (value_view h.texts) h.cells i v);
     }))
 
@@ -212,26 +213,26 @@ entry-there h g i j entry same at within is =
     slice_get_read h.tables (length h.tables) i entry refl (omega arith) is
 
 -- a table's entry changes as the store's table does
-pub Becomes-set_entry : (h g : HeapView) (i j : ℕ) (entry : TableEntry) (change : (Function → Closure) → Store → Store) → h ≡ g → i ≡ j
-    → ((closure : Function → Closure) → set_table (store_of closure h) i (table_view h.texts entry) ≡ change closure (store_of closure h))
+pub Becomes-set_entry : (h g : HeapView) (i j : ℕ) (entry : TableEntry) (change : Store → Store) → h ≡ g → i ≡ j
+    → (set_table (store_of h) i (table_view h.texts entry) ≡ change (store_of h))
     → Becomes g (record { texts = h.texts; tables = set h.tables i entry; cells = h.cells; functions = h.functions; contents = h.contents }) change
 Becomes-set_entry h g i j entry change same at changes =
     let new : HeapView = record { texts = h.texts; tables = set h.tables i entry; cells = h.cells; functions = h.functions; contents = h.contents } in
     let P : HeapView → Type 0 = λ k. Becomes k new change in
     subst P same (record {
       texts = refl;
-      store = λ closure.
-          let Of : List Table → Store = λ ts. record { tables = ts; cells = map (value_view h.texts) h.cells; functions = map closure h.functions; contents = h.contents } in
-          ap Of (map-set (table_view h.texts) h.tables i entry) ∙ changes closure;
+      functions = refl;
+      store =
+          let Of : List Table → Store = λ ts. record { tables = ts; cells = map (value_view h.texts) h.cells; contents = h.contents } in
+          ap Of (map-set (table_view h.texts) h.tables i entry) ∙ changes;
     })
 
 pub Becomes-set_meta : (h g : HeapView) (i j : ℕ) (entry : TableEntry) (meta : Option ℕ) → h ≡ g → i ≡ j → slice_get h.tables i ≡ Some entry
     → Becomes g (record { texts = h.texts; tables = set h.tables i (record { table = entry.table; meta = meta }); cells = h.cells; functions = h.functions; contents = h.contents })
-    (λ closure s. set_meta s j meta)
+    (λ s. set_meta s j meta)
 Becomes-set_meta h g i j entry meta same at there =
-    Becomes-set_entry h g i j (record { table = entry.table; meta = meta }) (λ closure s. set_meta s j meta) same at (λ closure.
-    let Of : Table → Store = λ t. set_table (store_of closure h) i (record { places = t.places; meta = meta }) in
-    ap Of (sym (table_at-view closure h i entry there)) ∙ ap (λ n. set_meta (store_of closure h) n meta) at)
+    Becomes-set_entry h g i j (record { table = entry.table; meta = meta }) (λ s. set_meta s j meta) same at (let Of : Table → Store = λ t. set_table (store_of h) i (record { places = t.places; meta = meta }) in
+    ap Of (sym (table_at-view h i entry there)) ∙ ap (λ n. set_meta (store_of h) n meta) at)
 
 pub IsHeap-set_meta : (h g : HeapView) → IsHeap h → h ≡ g → (i : ℕ) (entry : TableEntry) (meta : Option ℕ) → slice_get h.tables i ≡ Some entry → IsMadeTable g meta
     → IsHeap (record { texts = h.texts; tables = set h.tables i (record { table = entry.table; meta = meta }); cells = h.cells; functions = h.functions; contents = h.contents })
@@ -330,19 +331,19 @@ is_same-view h g is same a b a_made b_made =
     subst P same (eq-view h.texts is.once (counts h) refl value_eq decides a b (subst A (sym same) a_made) (subst B (sym same) b_made))
 
 pub raw_get-view : (h g : HeapView) → IsHeap h → h ≡ g → (i j : ℕ) → i ≡ j → (entry : TableEntry) → slice_get h.tables i ≡ Some entry → (key : Value) → IsMade g key
-    → (found : Option Value) → get value_eq entry.table key ≡ found → (closure : Function → Closure)
-    → value_view g.texts (unwrap_or found Nil) ≡ raw_get (store_of closure g) j (value_view g.texts key)
-raw_get-view h g is same i j at entry there key made found gives closure =
+    → (found : Option Value) → get value_eq entry.table key ≡ found
+    → value_view g.texts (unwrap_or found Nil) ≡ raw_get (store_of g) j (value_view g.texts key)
+raw_get-view h g is same i j at entry there key made found gives =
     let K : HeapView → Type 0 = λ k. IsMade k key in
     let own : IsMade h key = subst K (sym same) made in
     let all = (all-at (IsMadeEntry (counts h)) h.tables i entry is.tables there).0 in
-    let P : HeapView → Type 0 = λ k. value_view k.texts (unwrap_or found Nil) ≡ raw_get (store_of closure k) j (value_view k.texts key) in
-    let Q : ℕ → Type 0 = λ n. value_view h.texts (unwrap_or found Nil) ≡ raw_get (store_of closure h) n (value_view h.texts key) in
+    let P : HeapView → Type 0 = λ k. value_view k.texts (unwrap_or found Nil) ≡ raw_get (store_of k) j (value_view k.texts key) in
+    let Q : ℕ → Type 0 = λ n. value_view h.texts (unwrap_or found Nil) ≡ raw_get (store_of h) n (value_view h.texts key) in
     subst P same (subst Q at (
     view found
     ∙ ap (λ o. unwrap_or (option_map (value_view h.texts) o) meant.nil) (sym gives)
     ∙ ap (λ o. unwrap_or o meant.nil) (get-view h.texts is.once (counts h) refl value_eq decides entry.table key all own)
-    ∙ ap (λ (t : Table). unwrap_or (get meant.same t.places (value_view h.texts key)) meant.nil) (sym (table_at-view closure h i entry there))))
+    ∙ ap (λ (t : Table). unwrap_or (get meant.same t.places (value_view h.texts key)) meant.nil) (sym (table_at-view h i entry there))))
   where
     view : (o : Option Value) → value_view h.texts (unwrap_or o Nil) ≡ unwrap_or (option_map (value_view h.texts) o) meant.nil
     view None = refl
@@ -406,27 +407,26 @@ module _ (h g : HeapView) (is : IsHeap h) (same : h ≡ g) (i j : ℕ) (at : i �
 
   pub Becomes-set_raw : table ≡ with_raw entry.table key value
       → Becomes g (record { texts = h.texts; tables = set h.tables i (record { table = table; meta = entry.meta }); cells = h.cells; functions = h.functions; contents = h.contents })
-      (λ closure s. raw_set s j (value_view g.texts key) (value_view g.texts value))
+      (λ s. raw_set s j (value_view g.texts key) (value_view g.texts value))
   Becomes-set_raw gives =
       let K : HeapView → Type 0 = λ k. IsMade k key in
       let made = all-at (IsMadeEntry (counts h)) h.tables i entry is.tables there in
-      Becomes-set_entry h g i j (record { table = table; meta = entry.meta }) (λ closure s. raw_set s j (value_view g.texts key) (value_view g.texts value)) same at (λ closure.
-      let s = store_of closure h in
+      Becomes-set_entry h g i j (record { table = table; meta = entry.meta }) (λ s. raw_set s j (value_view g.texts key) (value_view g.texts value)) same at (let s = store_of h in
       let View : Places meant.Value meant.Value → Store = λ ps. set_table s i (record { places = ps; meta = entry.meta }) in
       let Of : Table → Store = λ t. set_table s i (record { places = with_value t.places (value_view h.texts key) (value_view h.texts value); meta = t.meta }) in
       ap View (ap (λ ps. places_view h.texts ps) gives ∙ with_raw-view h is entry.table key value made.0 (subst K (sym same) key_made))
-      ∙ ap Of (sym (table_at-view closure h i entry there))
+      ∙ ap Of (sym (table_at-view h i entry there))
       ∙ ap (λ n. raw_set s n (value_view h.texts key) (value_view h.texts value)) at
       ∙ ap (λ (k : HeapView). raw_set s j (value_view k.texts key) (value_view k.texts value)) same)
 
-  pub has_place-raw : (closure : Function → Closure) → has_place meant.same (table_at (store_of closure g) j).places (value_view g.texts key) ≡ true → has_place value_eq entry.table key ≡ true
-  has_place-raw closure e =
+  pub has_place-raw : has_place meant.same (table_at (store_of g) j).places (value_view g.texts key) ≡ true → has_place value_eq entry.table key ≡ true
+  has_place-raw e =
       let K : HeapView → Type 0 = λ k. IsMade k key in
       let made = all-at (IsMadeEntry (counts h)) h.tables i entry is.tables there in
       has_place-view h.texts is.once (counts h) refl value_eq decides entry.table key made.0 (subst K (sym same) key_made)
-      ∙ ap (λ (t : Table). has_place meant.same t.places (value_view h.texts key)) (sym (table_at-view closure h i entry there))
-      ∙ ap (λ n. has_place meant.same (table_at (store_of closure h) n).places (value_view h.texts key)) at
-      ∙ ap (λ (k : HeapView). has_place meant.same (table_at (store_of closure k) j).places (value_view k.texts key)) same
+      ∙ ap (λ (t : Table). has_place meant.same t.places (value_view h.texts key)) (sym (table_at-view h i entry there))
+      ∙ ap (λ n. has_place meant.same (table_at (store_of h) n).places (value_view h.texts key)) at
+      ∙ ap (λ (k : HeapView). has_place meant.same (table_at (store_of k) j).places (value_view k.texts key)) same
       ∙ e
 
 -- an entry that is put back as it was
@@ -476,13 +476,13 @@ module _ (h : HeapView) (is : IsHeap h) (places : Places Value Value) (all : Are
   border-places : least_border value_eq value_at places ≡ least_border meant.same position (places_view h.texts places)
   border-places = run-view 1 (length places) ∙ ap (λ n. run_length meant.same position (places_view h.texts places) 1 n) (sym (length-map places (λ p. place_view h.texts p)))
 
-pub border-view : (h g : HeapView) → IsHeap h → h ≡ g → (i j : ℕ) → i ≡ j → (entry : TableEntry) → slice_get h.tables i ≡ Some entry → (closure : Function → Closure)
-    → least_border value_eq value_at entry.table ≡ border (store_of closure g) j
-border-view h g is same i j at entry there closure =
+pub border-view : (h g : HeapView) → IsHeap h → h ≡ g → (i j : ℕ) → i ≡ j → (entry : TableEntry) → slice_get h.tables i ≡ Some entry
+    → least_border value_eq value_at entry.table ≡ border (store_of g) j
+border-view h g is same i j at entry there =
     let all = (all-at (IsMadeEntry (counts h)) h.tables i entry is.tables there).0 in
     border-places h is entry.table all
-    ∙ ap (λ (t : Table). least_border meant.same position t.places) (sym (table_at-view closure h i entry there))
-    ∙ ap (λ n. border (store_of closure h) n) at ∙ ap (λ k. border (store_of closure k) j) same
+    ∙ ap (λ (t : Table). least_border meant.same position t.places) (sym (table_at-view h i entry there))
+    ∙ ap (λ n. border (store_of h) n) at ∙ ap (λ k. border (store_of k) j) same
 
 -- a field's value is set where the table, its name and the value are what they are called
 pub put_store : (s before after : Store) (t u : ℕ) (key name value given : meant.Value) → after ≡ raw_set before t key value → before ≡ s → t ≡ u → key ≡ name → value ≡ given

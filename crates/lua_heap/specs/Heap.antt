@@ -4,7 +4,7 @@ use Rattle.std.specs.List.{AllByRecursion}
 use Rattle.love_base.specs.Data.{Contents}
 use Rattle.love_base.specs.Prefix.{IsPrefix}
 use Rattle.lua_tree.specs.Tree.{Bytes}
-use Rattle.lua_meaning.specs.Store.{Store, Closure, Table}
+use Rattle.lua_meaning.specs.Store.{Store, Table}
 use Rattle.lua_heap.specs.declared.entries.Function.{Function}
 use Rattle.lua_heap.specs.declared.entries.TableEntry.{TableEntry}
 use Rattle.lua_heap.specs.declared.value.Value.{Value}
@@ -24,13 +24,12 @@ pub record HeapView : Type 0 where
 abbrev pub table_view : List Bytes → TableEntry → Table
 table_view texts entry = record { places = places_view texts entry.table; meta = entry.meta }
 
--- the store that a heap is, where it is known what each function's code means
-abbrev pub store_of : (Function → Closure) → HeapView → Store
-store_of closure h =
+-- the store that a heap is; the functions stand beside it
+abbrev pub store_of : HeapView → Store
+store_of h =
     record {
       tables = map (table_view h.texts) h.tables;
       cells = map (value_view h.texts) h.cells;
-      functions = map closure h.functions;
       contents = h.contents;
     }
 
@@ -40,10 +39,11 @@ no_function = record { code = 0; proto = 0; cells = [] }
 abbrev pub function_at : HeapView → ℕ → Function
 function_at h id = unwrap_or (slice_get h.functions id) no_function
 
--- the store changes, whatever the code of functions means, and no string
-pub record Becomes (before after : HeapView) (change : (Function → Closure) → Store → Store) : Type 0 where
+-- the store changes, and no string and no function
+pub record Becomes (before after : HeapView) (change : Store → Store) : Type 0 where
   pub texts : after.texts ≡ before.texts
-  pub store : (closure : Function → Closure) → store_of closure after ≡ change closure (store_of closure before)
+  pub functions : after.functions ≡ before.functions
+  pub store : store_of after ≡ change (store_of before)
 
 -- ---- what was made by a heap
 

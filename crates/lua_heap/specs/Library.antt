@@ -8,7 +8,7 @@ use Rattle.lua_heap.specs.declared.entries.TableEntry.{TableEntry}
 
 -- a store of empty first tables
 abbrev pub empty_store : Store
-empty_store = record { tables = replicate 10 no_table; cells = []; functions = []; contents = [] }
+empty_store = record { tables = replicate 10 no_table; cells = []; contents = [] }
 
 abbrev pub empty_entry : TableEntry
 empty_entry = record { table = []; meta = None }

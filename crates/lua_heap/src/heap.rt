@@ -1,9 +1,8 @@
 //! The heap: what it has made, and how each is read and changed.
 
-ghost use Rattle.std.specs.Prelude.{◌≡◌, ℕ, ◌<◌, ◌↔◌, length, slice_get, Some, IfOk, OnOk, OnErr, IsTrue};
-ghost use Rattle.lua_heap.specs.declared.entries.Function.{Function as Made};
+ghost use Rattle.std.specs.Prelude.{◌≡◌, ℕ, ◌<◌, ◌↔◌, length, slice_get, Some, IfOk, OnOk, OnErr, IsTrue, ◌++◌, ◌∷◌, []};
 ghost use Rattle.lua_meaning.specs.Value.{same};
-ghost use Rattle.lua_meaning.specs.Store.{Closure, add_table, add_cell, add_closure, add_contents, set_cell, set_meta, table_at, cell_value, contents_at, globals_place};
+ghost use Rattle.lua_meaning.specs.Store.{add_table, add_cell, add_contents, set_cell, set_meta, table_at, cell_value, contents_at, globals_place};
 ghost use Rattle.lua_heap.specs.Texts.{interned};
 ghost use Rattle.lua_heap.specs.Value.{value_view, places_view, AreCounted};
 ghost use Rattle.lua_heap.specs.Heap.{store_of, function_at, Becomes, IsMade, IsMadeTable, AreMadeCells, Extends, counts};
@@ -67,8 +66,8 @@ impl Heap {
         ensures one_id { IfOk result (λ id. (other : ℕ)
             → slice_get self.new.texts other ≡ Some bytes.now → other ≡ id) }
         ensures texts { OnOk result (self.new.texts ≡ interned self.old.texts bytes.now) }
-        ensures store { (closure : Made → Closure)
-            → store_of closure self.new ≡ store_of closure self.old }
+        ensures store { store_of self.new ≡ store_of self.old }
+        ensures functions { self.new.functions ≡ self.old.functions }
         ensures refused { OnErr result (self.new ≡ self.old) }
         ensures extends { Extends self.old self.new }
     {
@@ -83,7 +82,7 @@ impl Heap {
     pub fn new_table(&mut self) -> Result<TableId, Memory>
         ensures id { IfOk result (λ id. id ≡ length self.old.tables) }
         ensures made { IfOk result (λ id. id < length self.new.tables) }
-        ensures store { OnOk result (Becomes self.old self.new (λ closure s. add_table s)) }
+        ensures store { OnOk result (Becomes self.old self.new add_table) }
         ensures refused { OnErr result (self.new ≡ self.old) }
         ensures extends { Extends self.old self.new }
     {
@@ -103,7 +102,7 @@ impl Heap {
         ensures id { IfOk result (λ id. id ≡ length self.old.cells) }
         ensures made { IfOk result (λ id. id < length self.new.cells) }
         ensures store { OnOk result (Becomes self.old self.new
-            (λ closure s. add_cell s (value_view self.old.texts value))) }
+            (λ s. add_cell s (value_view self.old.texts value))) }
         ensures refused { OnErr result (self.new ≡ self.old) }
         ensures extends { Extends self.old self.new }
     {
@@ -122,8 +121,10 @@ impl Heap {
         requires made { AreMadeCells self.old cells.now }
         ensures id { IfOk result (λ id. id ≡ length self.old.functions) }
         ensures made { IfOk result (λ id. id < length self.new.functions) }
-        ensures store { OnOk result (Becomes self.old self.new (λ closure s.
-            add_closure s (closure (record { code = code; proto = proto; cells = cells.now })))) }
+        ensures function { OnOk result (self.new.functions ≡ self.old.functions
+            ++ record { code = code; proto = proto; cells = cells.now } ∷ []) }
+        ensures texts { OnOk result (self.new.texts ≡ self.old.texts) }
+        ensures store { OnOk result (store_of self.new ≡ store_of self.old) }
         ensures refused { OnErr result (self.new ≡ self.old) }
         ensures extends { Extends self.old self.new }
     {
@@ -142,7 +143,7 @@ impl Heap {
         ensures id { IfOk result (λ id. id ≡ length self.old.contents) }
         ensures made { IfOk result (λ id. id < length self.new.contents) }
         ensures store { OnOk result (Becomes self.old self.new
-            (λ closure s. add_contents s content)) }
+            (λ s. add_contents s content)) }
         ensures refused { OnErr result (self.new ≡ self.old) }
         ensures extends { Extends self.old self.new }
     {
@@ -194,8 +195,8 @@ impl Heap {
     /// The keys and values of a table, read without metamethods.
     pub fn table(&self, id: TableId) -> &Table<Value, Value>
         requires made { id < length self.now.tables }
-        ensures places { (closure : Made → Closure) → places_view self.now.texts result.now
-            ≡ (table_at (store_of closure self.now) id).places }
+        ensures places { places_view self.now.texts result.now
+            ≡ (table_at (store_of self.now) id).places }
         ensures made { AreCounted (counts self.now) result.now }
     {
         &self.tables[id.place()].table
@@ -204,8 +205,7 @@ impl Heap {
     /// The bytes of Data, and the name of the file that they came from, where there is one.
     pub fn data_of(&self, id: DataId) -> &Data
         requires made { id < length self.now.contents }
-        ensures contents { (closure : Made → Closure) →
-            result.now ≡ contents_at (store_of closure self.now) id }
+        ensures contents { result.now ≡ contents_at (store_of self.now) id }
     {
         &self.contents[id.place()]
     }
@@ -223,10 +223,7 @@ impl Heap {
     /// The number of a function's code among those that the machine has loaded.
     pub fn func_code(&self, id: FuncId) -> u32
         requires made { id < length self.now.functions }
-        ensures code { result ≡ (function_at self.now id).code }
-        ensures closure { (closure : Made → Closure) →
-            slice_get (store_of closure self.now).functions id
-            ≡ Some (closure (function_at self.now id)) }
+        ensures { result ≡ (function_at self.now id).code }
     {
         self.functions[id.place()].code
     }
@@ -251,8 +248,7 @@ impl Heap {
     /// What a cell holds.
     pub fn cell(&self, id: CellId) -> Value
         requires made { id < length self.now.cells }
-        ensures value { (closure : Made → Closure) →
-            value_view self.now.texts result ≡ cell_value (store_of closure self.now) id }
+        ensures value { value_view self.now.texts result ≡ cell_value (store_of self.now) id }
         ensures made { IsMade self.now result }
     {
         self.cells[id.place()]
@@ -268,8 +264,7 @@ impl Heap {
     /// The metatable of a table, where it has one.
     pub fn meta(&self, id: TableId) -> Option<TableId>
         requires made { id < length self.now.tables }
-        ensures meta { (closure : Made → Closure) →
-            result ≡ (table_at (store_of closure self.now) id).meta }
+        ensures meta { result ≡ (table_at (store_of self.now) id).meta }
         ensures made { IsMadeTable self.now result }
     {
         self.tables[id.place()].meta
@@ -284,7 +279,7 @@ impl Heap {
         requires cell { id < length self.old.cells }
         requires made { IsMade self.old value }
         ensures store { Becomes self.old self.new
-            (λ closure s. set_cell s id (value_view self.old.texts value)) }
+            (λ s. set_cell s id (value_view self.old.texts value)) }
         ensures extends { Extends self.old self.new }
     {
         self.cells[id.place()] = value;
@@ -295,7 +290,7 @@ impl Heap {
     pub fn set_meta(&mut self, id: TableId, meta: Option<TableId>)
         requires table { id < length self.old.tables }
         requires made { IsMadeTable self.old meta }
-        ensures store { Becomes self.old self.new (λ closure s. set_meta s id meta) }
+        ensures store { Becomes self.old self.new (λ s. set_meta s id meta) }
         ensures extends { Extends self.old self.new }
     {
         self.tables[id.place()].meta = meta;

@@ -3,9 +3,8 @@
 ghost use Rattle.std.specs.Prelude.{◌≡◌, ◌<◌, length, codes, List, None, Some, if◌then◌else◌};
 ghost use Rattle.std.specs.Option.{option_map_or};
 ghost use Rattle.lua_tree.specs.Tree.{Bytes};
-ghost use Rattle.lua_heap.specs.declared.entries.Function.{Function as Made};
 ghost use Rattle.lua_meaning.specs.Value.{Value as Meant, is_nil};
-ghost use Rattle.lua_meaning.specs.Store.{Closure, contents_at, handler};
+ghost use Rattle.lua_meaning.specs.Store.{contents_at, handler};
 ghost use Rattle.lua_meaning.specs.Handlers.{lookup, setting, own_value, by_own, by_handler, unhandled, set_by_own, set_by_handler, unhandled_set, in_table, method_named, methods_of_data};
 ghost use Rattle.lua_meaning.specs.Handlers.{Lookup as MeantLookup, Setting};
 ghost use Rattle.lua_heap.specs.Value.{value_view};
@@ -60,8 +59,7 @@ impl Heap {
     pub fn index(&self, base: Value, key: Value) -> Lookup
         requires base { IsMade self.now base }
         requires key { IsMade self.now key }
-        ensures lookup { (closure : Made → Closure) →
-            lookup_view self.now.texts result ≡ lookup (store_of closure self.now)
+        ensures lookup { lookup_view self.now.texts result ≡ lookup (store_of self.now)
             (value_view self.now.texts base) (value_view self.now.texts key) }
         ensures made { IsMadeLookup self.now result }
     {
@@ -81,8 +79,7 @@ impl Heap {
     pub fn new_index(&self, base: Value, key: Value) -> Store
         requires base { IsMade self.now base }
         requires key { IsMade self.now key }
-        ensures setting { (closure : Made → Closure) →
-            setting_view self.now.texts result ≡ setting (store_of closure self.now)
+        ensures setting { setting_view self.now.texts result ≡ setting (store_of self.now)
             (value_view self.now.texts base) (value_view self.now.texts key) }
         ensures made { IsMadeStore self.now result }
     {
@@ -103,10 +100,10 @@ impl Heap {
     fn look(&self, base: &Value, key: &Value) -> Step<Lookup>
         requires base { IsMade self.now base.now }
         requires key { IsMade self.now key.now }
-        ensures step { (closure : Made → Closure) (next : Meant → MeantLookup) →
+        ensures step { (next : Meant → MeantLookup) →
             found_by self.now.texts next result
-            ≡ by_own (store_of closure self.now) (value_view self.now.texts base.now)
-            (own_value (store_of closure self.now) (value_view self.now.texts base.now)
+            ≡ by_own (store_of self.now) (value_view self.now.texts base.now)
+            (own_value (store_of self.now) (value_view self.now.texts base.now)
             (value_view self.now.texts key.now)) next }
         ensures made { IsMadeStep (IsMadeLookup self.now) self.now result }
     {
@@ -121,9 +118,9 @@ impl Heap {
     fn look_for_set(&self, base: &Value, key: &Value) -> Step<Store>
         requires base { IsMade self.now base.now }
         requires key { IsMade self.now key.now }
-        ensures step { (closure : Made → Closure) (next : Meant → Setting) →
+        ensures step { (next : Meant → Setting) →
             set_by self.now.texts next result
-            ≡ set_by_own (store_of closure self.now) (value_view self.now.texts base.now)
+            ≡ set_by_own (store_of self.now) (value_view self.now.texts base.now)
             (value_view self.now.texts key.now) next }
         ensures made { IsMadeStep (IsMadeStore self.now) self.now result }
     {
@@ -137,8 +134,8 @@ impl Heap {
     #[inline]
     fn index_handler(&self, base: Value) -> Value
         requires made { IsMade self.now base }
-        ensures handler { (closure : Made → Closure) → value_view self.now.texts result
-            ≡ handler (store_of closure self.now) (value_view self.now.texts base) (codes "__index") }
+        ensures handler { value_view self.now.texts result
+            ≡ handler (store_of self.now) (value_view self.now.texts base) (codes "__index") }
         ensures made { IsMade self.now result }
     {
         let _texts = &self.texts;
@@ -149,8 +146,8 @@ impl Heap {
     #[inline]
     fn newindex_handler(&self, base: Value) -> Value
         requires made { IsMade self.now base }
-        ensures handler { (closure : Made → Closure) → value_view self.now.texts result
-            ≡ handler (store_of closure self.now) (value_view self.now.texts base) (codes "__newindex") }
+        ensures handler { value_view self.now.texts result
+            ≡ handler (store_of self.now) (value_view self.now.texts base) (codes "__newindex") }
         ensures made { IsMade self.now result }
     {
         let _texts = &self.texts;
@@ -162,11 +159,11 @@ impl Heap {
     fn own_table(&self, base: &Value, key: &Value) -> Option<TableId>
         requires base { IsMade self.now base.now }
         requires key { IsMade self.now key.now }
-        ensures own { (closure : Made → Closure) (next : Meant → Setting) →
-            set_by_own (store_of closure self.now) (value_view self.now.texts base.now)
+        ensures own { (next : Meant → Setting) →
+            set_by_own (store_of self.now) (value_view self.now.texts base.now)
             (value_view self.now.texts key.now) next
             ≡ option_map_or in_table result (set_by_handler (value_view self.now.texts base.now)
-            (handler (store_of closure self.now) (value_view self.now.texts base.now)
+            (handler (store_of self.now) (value_view self.now.texts base.now)
             (codes "__newindex")) next) }
         ensures made { IsMadeTable self.now result }
     {
@@ -184,9 +181,8 @@ impl Heap {
     fn own(&self, base: Value, key: Value) -> Option<Value>
         requires base { IsMade self.now base }
         requires key { IsMade self.now key }
-        ensures own { (closure : Made → Closure) →
-            value_option_view self.now.texts result
-            ≡ own_value (store_of closure self.now) (value_view self.now.texts base)
+        ensures own { value_option_view self.now.texts result
+            ≡ own_value (store_of self.now) (value_view self.now.texts base)
             (value_view self.now.texts key) }
         ensures made { IsMadeOption self.now result }
     {
@@ -204,8 +200,8 @@ impl Heap {
     fn data_method(&self, id: DataId, key: Value) -> Value
         requires made { id < length self.now.contents }
         requires key { IsMade self.now key }
-        ensures method { (closure : Made → Closure) → value_view self.now.texts result
-            ≡ method_named (methods_of_data (contents_at (store_of closure self.now) id).name)
+        ensures method { value_view self.now.texts result
+            ≡ method_named (methods_of_data (contents_at (store_of self.now) id).name)
             (value_view self.now.texts key) }
         ensures made { IsMade self.now result }
     {

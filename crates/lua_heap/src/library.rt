@@ -1,9 +1,8 @@
 //! The library: the tables that each state has from its start.
 
-ghost use Rattle.std.specs.Prelude.{◌≡◌, ◌<◌, map, replicate, IfOk, OnOk};
-ghost use Rattle.lua_heap.specs.declared.entries.Function.{Function as Made};
+ghost use Rattle.std.specs.Prelude.{◌≡◌, ◌<◌, map, replicate, IfOk, OnOk, []};
 ghost use Rattle.lua_meaning.specs.Value.{str};
-ghost use Rattle.lua_meaning.specs.Store.{Closure, raw_set};
+ghost use Rattle.lua_meaning.specs.Store.{raw_set};
 ghost use Rattle.lua_meaning.specs.Run.{first_store};
 ghost use Rattle.lua_heap.specs.Native.{native_view};
 ghost use Rattle.lua_heap.specs.Value.{value_view};
@@ -130,8 +129,8 @@ impl Heap {
     ///
     /// [`Memory`] where there is no room for it.
     pub fn new(alloc: Global) -> Result<Heap, Memory>
-        ensures { IfOk result (λ heap. (closure : Made → Closure) →
-            store_of closure heap ≡ first_store 1) }
+        ensures store { IfOk result (λ heap. store_of heap ≡ first_store 1) }
+        ensures functions { IfOk result (λ heap. heap.functions ≡ []) }
     {
         let mut heap = Heap::empty(alloc)?;
         heap.fill_globals()?;
@@ -142,8 +141,8 @@ impl Heap {
 
     // A heap whose first tables are empty.
     fn empty(alloc: Global) -> Result<Heap, Memory>
-        ensures { IfOk result (λ heap. (closure : Made → Closure) →
-            store_of closure heap ≡ empty_store) }
+        ensures store { IfOk result (λ heap. store_of heap ≡ empty_store) }
+        ensures functions { IfOk result (λ heap. heap.functions ≡ []) }
     {
         let mut texts = Texts::new(alloc);
         texts.intern(b"__index")?;
@@ -160,8 +159,8 @@ impl Heap {
 
     // Fills the table of the global names.
     fn fill_globals(&mut self) -> Result<(), Memory>
-        ensures { OnOk result ((closure : Made → Closure) →
-            store_of closure self.new ≡ with_globals (store_of closure self.old)) }
+        ensures store { OnOk result (store_of self.new ≡ with_globals (store_of self.old)) }
+        ensures functions { OnOk result (self.new.functions ≡ self.old.functions) }
     {
         self.put_functions(GLOBALS, &GLOBAL_FUNCTIONS)?;
         self.put_table(GLOBALS, b"_G", GLOBALS)?;
@@ -175,8 +174,8 @@ impl Heap {
 
     // Fills the tables of Lua's library.
     fn fill_library(&mut self) -> Result<(), Memory>
-        ensures { OnOk result ((closure : Made → Closure) →
-            store_of closure self.new ≡ with_library (store_of closure self.old)) }
+        ensures store { OnOk result (store_of self.new ≡ with_library (store_of self.old)) }
+        ensures functions { OnOk result (self.new.functions ≡ self.old.functions) }
     {
         self.put_functions(STRING, &STRING_FUNCTIONS)?;
         self.put_functions(TABLE, &TABLE_FUNCTIONS)?;
@@ -187,8 +186,8 @@ impl Heap {
 
     // Fills the tables of LÖVE's modules.
     fn fill_modules(&mut self) -> Result<(), Memory>
-        ensures { OnOk result ((closure : Made → Closure) →
-            store_of closure self.new ≡ with_modules (store_of closure self.old)) }
+        ensures store { OnOk result (store_of self.new ≡ with_modules (store_of self.old)) }
+        ensures functions { OnOk result (self.new.functions ≡ self.old.functions) }
     {
         self.put_table(LOVE, b"thread", LOVE_THREAD)?;
         self.put_table(LOVE, b"data", LOVE_DATA)?;
@@ -203,8 +202,9 @@ impl Heap {
     // Functions become fields of a table by their names.
     fn put_functions(&mut self, table: usize, functions: &[Native]) -> Result<(), Memory>
         requires { table < 10 }
-        ensures { OnOk result ((closure : Made → Closure) → store_of closure self.new
-            ≡ with_functions table (map native_view functions.now) (store_of closure self.old)) }
+        ensures store { OnOk result (store_of self.new
+            ≡ with_functions table (map native_view functions.now) (store_of self.old)) }
+        ensures functions { OnOk result (self.new.functions ≡ self.old.functions) }
     {
         for function in functions {
             self.put(table, function.name(), Value::Native(*function))?;
@@ -216,8 +216,9 @@ impl Heap {
     fn put_table(&mut self, table: usize, name: &[u8], other: usize) -> Result<(), Memory>
         requires table { table < 10 }
         requires other { other < 10 }
-        ensures { OnOk result ((closure : Made → Closure) → store_of closure self.new
-            ≡ with_table table name.now other (store_of closure self.old)) }
+        ensures store { OnOk result (store_of self.new
+            ≡ with_table table name.now other (store_of self.old)) }
+        ensures functions { OnOk result (self.new.functions ≡ self.old.functions) }
     {
         let _tables = &self.tables;
         self.put(table, name, Value::Table(TableId::at(other)))
@@ -226,8 +227,9 @@ impl Heap {
     // A text becomes a field of a table.
     fn put_text(&mut self, table: usize, name: &[u8], text: &[u8]) -> Result<(), Memory>
         requires { table < 10 }
-        ensures { OnOk result ((closure : Made → Closure) → store_of closure self.new
-            ≡ with_text table name.now text.now (store_of closure self.old)) }
+        ensures store { OnOk result (store_of self.new
+            ≡ with_text table name.now text.now (store_of self.old)) }
+        ensures functions { OnOk result (self.new.functions ≡ self.old.functions) }
     {
         let value = Value::Str(self.intern(text)?);
         self.put(table, name, value)?;
@@ -238,9 +240,10 @@ impl Heap {
     fn put(&mut self, table: usize, name: &[u8], value: Value) -> Result<(), Memory>
         requires table { table < 10 }
         requires value { IsMade self.old value }
-        ensures { OnOk result ((closure : Made → Closure) → store_of closure self.new
-            ≡ raw_set (store_of closure self.old) table (str name.now)
+        ensures store { OnOk result (store_of self.new
+            ≡ raw_set (store_of self.old) table (str name.now)
             (value_view self.old.texts value)) }
+        ensures functions { OnOk result (self.new.functions ≡ self.old.functions) }
     {
         let key = Value::Str(self.intern(name)?);
         let _tables = &self.tables;

@@ -2,9 +2,8 @@
 
 ghost use Rattle.std.specs.Prelude.{◌≡◌, ◌<◌, ◌≢◌, length, OnOk, OnErr, IsOk, IsTrue};
 ghost use Rattle.lua_table.specs.Table.{has_place};
-ghost use Rattle.lua_heap.specs.declared.entries.Function.{Function as Made};
 ghost use Rattle.lua_meaning.specs.Value.{str, same};
-ghost use Rattle.lua_meaning.specs.Store.{Closure, raw_get, raw_set, table_at, border, metatable, handler};
+ghost use Rattle.lua_meaning.specs.Store.{raw_get, raw_set, table_at, border, metatable, handler};
 ghost use Rattle.lua_heap.specs.Alike.{value_eq};
 ghost use Rattle.lua_heap.specs.Raw.{with_raw};
 ghost use Rattle.lua_heap.specs.Value.{value_view, text_at};
@@ -38,9 +37,8 @@ impl Heap {
     pub fn get_raw(&self, id: TableId, key: Value) -> Value
         requires table { id < length self.now.tables }
         requires key { IsMade self.now key }
-        ensures value { (closure : Made → Closure) →
-            value_view self.now.texts result
-            ≡ raw_get (store_of closure self.now) id (value_view self.now.texts key) }
+        ensures value { value_view self.now.texts result
+            ≡ raw_get (store_of self.now) id (value_view self.now.texts key) }
         ensures made { IsMade self.now result }
     {
         let entry = &self.tables[id.place()];
@@ -62,12 +60,11 @@ impl Heap {
         requires key { IsMade self.old key }
         requires is_key { key ≢ Value.Nil }
         requires value { IsMade self.old value }
-        ensures store { OnOk result (Becomes self.old self.new (λ closure s.
+        ensures store { OnOk result (Becomes self.old self.new (λ s.
             raw_set s id (value_view self.old.texts key) (value_view self.old.texts value))) }
         ensures refused { OnErr result (self.new ≡ self.old) }
         ensures cleared { value ≡ Value.Nil → IsOk result }
-        ensures placed { (closure : Made → Closure) →
-            IsTrue (has_place same (table_at (store_of closure self.old) id).places
+        ensures placed { IsTrue (has_place same (table_at (store_of self.old) id).places
             (value_view self.old.texts key))
             → IsOk result }
         ensures extends { Extends self.old self.new }
@@ -81,7 +78,7 @@ impl Heap {
     #[inline]
     pub fn border(&self, id: TableId) -> u64
         requires { id < length self.now.tables }
-        ensures { (closure : Made → Closure) → result ≡ border (store_of closure self.now) id }
+        ensures { result ≡ border (store_of self.now) id }
     {
         let entry = &self.tables[id.place()];
         entry.table.border()
@@ -92,8 +89,7 @@ impl Heap {
     #[inline]
     pub fn metatable(&self, value: Value) -> Option<TableId>
         requires made { IsMade self.now value }
-        ensures meta { (closure : Made → Closure) →
-            result ≡ metatable (store_of closure self.now) (value_view self.now.texts value) }
+        ensures meta { result ≡ metatable (store_of self.now) (value_view self.now.texts value) }
         ensures made { IsMadeTable self.now result }
     {
         // The metatable of strings is one of the first tables.
@@ -111,9 +107,8 @@ impl Heap {
     pub fn handler(&self, value: Value, event: StrId) -> Value
         requires made { IsMade self.now value }
         requires event { event < length self.now.texts }
-        ensures handler { (closure : Made → Closure) →
-            value_view self.now.texts result
-            ≡ handler (store_of closure self.now) (value_view self.now.texts value)
+        ensures handler { value_view self.now.texts result
+            ≡ handler (store_of self.now) (value_view self.now.texts value)
             (text_at self.now.texts event) }
         ensures made { IsMade self.now result }
     {

@@ -10,9 +10,9 @@ invariant_of-self-2 c =
     IsHeap-with-texts _ c.self.invariant c.intern.new.self grown.0 (c.in_ok-intern.ensures.texts ∙ grown.1) c.in_ok-intern.ensures.once
 
 pub returns-clause-store : goal.returns-clause-store
-returns-clause-store c = λ closure.
+returns-clause-store c =
     let grown = interned-prefix c.self.inside.texts c.args.bytes.now in
-    store_of-with-texts _ c.self.invariant c.intern.new.self grown.0 (c.in_ok-intern.ensures.texts ∙ grown.1) closure ∙ ap (λ h. store_of closure h) c.self.view_is
+    store_of-with-texts _ c.self.invariant c.intern.new.self grown.0 (c.in_ok-intern.ensures.texts ∙ grown.1) ∙ ap (λ h. store_of h) c.self.view_is
 
 pub returns-clause-extends : goal.returns-clause-extends
 returns-clause-extends c =

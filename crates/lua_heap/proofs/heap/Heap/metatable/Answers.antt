@@ -5,5 +5,5 @@ use Rattle.lua_heap.specs.Heap.{store_of}
 use Rattle.lua_heap.proofs.heap.Heap.metatable.Goals as goal
 
 pub returns-in-Table-clause-meta : goal.returns-in-Table-clause-meta
-returns-in-Table-clause-meta c = λ closure.
-    c.meta.ensures.meta closure ∙ ap (λ v. metatable (store_of closure c.args.self.now) (value_view c.args.self.now.texts v)) (sym c.in-Table.is)
+returns-in-Table-clause-meta c =
+    c.meta.ensures.meta ∙ ap (λ v. metatable (store_of c.args.self.now) (value_view c.args.self.now.texts v)) (sym c.in-Table.is)

@@ -1,7 +1,5 @@
 use Rattle.std.proofs.Common.{◌≡◌}
-use Rattle.lua_meaning.specs.Store.{Closure}
 use Rattle.lua_meaning.specs.Handlers.{setting, setting_within}
-use Rattle.lua_heap.specs.declared.entries.Function.{Function}
 use Rattle.lua_heap.specs.Value.{value_view}
 use Rattle.lua_heap.specs.Heap.{store_of, IsMade}
 use Rattle.lua_heap.proofs.heap.Heap.new_index.Given as goal
@@ -10,9 +8,8 @@ use Rattle.lua_heap.proofs.heap.Heap.new_index.Given as goal
 abbrev pub invariant-loop-left : goal.invariant-loop-left
 invariant-loop-left l =
     record {
-      same : (closure : Function → Closure) →
-          setting (store_of closure l.self) (value_view l.self.texts l.fn.base) (value_view l.self.texts l.key)
-          ≡ setting_within l.left (store_of closure l.self) (value_view l.self.texts l.key) (value_view l.self.texts l.at);
+      same : setting (store_of l.self) (value_view l.self.texts l.fn.base) (value_view l.self.texts l.key)
+          ≡ setting_within l.left (store_of l.self) (value_view l.self.texts l.key) (value_view l.self.texts l.at);
       made : IsMade l.self l.at;
     }
 

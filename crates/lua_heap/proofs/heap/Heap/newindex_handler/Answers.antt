@@ -6,7 +6,7 @@ use Rattle.lua_heap.specs.Heap.{HeapView, store_of}
 use Rattle.lua_heap.proofs.heap.Heap.newindex_handler.Goals as goal
 
 pub returns-clause-handler : goal.returns-clause-handler
-returns-clause-handler c = λ closure.
+returns-clause-handler c =
     let name : text_at c.args.self.now.texts c.at.result ≡ codes "__newindex" =
     ap (λ n. text_at c.args.self.now.texts n) c.at.ensures ∙ ap (λ (h : HeapView). text_at h.texts 1) (sym c.self.view_is) ∙ ap (λ text. unwrap_or text []) c.self.invariant.newindex_name in
-    c.handler.ensures.handler closure ∙ ap (λ text. handler (store_of closure c.args.self.now) (value_view c.args.self.now.texts c.args.base) text) name
+    c.handler.ensures.handler ∙ ap (λ text. handler (store_of c.args.self.now) (value_view c.args.self.now.texts c.args.base) text) name

@@ -6,11 +6,11 @@ use Rattle.lua_heap.specs.Heap.{store_of}
 use Rattle.lua_heap.proofs.heap.Heap.own.Goals as goal
 
 pub returns-in-Table-clause-own : goal.returns-in-Table-clause-own
-returns-in-Table-clause-own c = λ closure.
-    c.unless_nil.ensures.value c.args.self.now.texts ∙ ap (λ v. cond (is_nil v) None (Some v)) (c.get_raw.ensures.value closure)
-    ∙ ap (λ v. own_value (store_of closure c.args.self.now) (value_view c.args.self.now.texts v) (value_view c.args.self.now.texts c.args.key)) (sym c.in-Table.is)
+returns-in-Table-clause-own c =
+    c.unless_nil.ensures.value c.args.self.now.texts ∙ ap (λ v. cond (is_nil v) None (Some v)) (c.get_raw.ensures.value)
+    ∙ ap (λ v. own_value (store_of c.args.self.now) (value_view c.args.self.now.texts v) (value_view c.args.self.now.texts c.args.key)) (sym c.in-Table.is)
 
 pub returns-in-Data-clause-own : goal.returns-in-Data-clause-own
-returns-in-Data-clause-own c = λ closure.
-    ap (λ v. Some v) (c.data_method.ensures.method closure)
-    ∙ ap (λ v. own_value (store_of closure c.args.self.now) (value_view c.args.self.now.texts v) (value_view c.args.self.now.texts c.args.key)) (sym c.in-Data.is)
+returns-in-Data-clause-own c =
+    ap (λ v. Some v) (c.data_method.ensures.method)
+    ∙ ap (λ v. own_value (store_of c.args.self.now) (value_view c.args.self.now.texts v) (value_view c.args.self.now.texts c.args.key)) (sym c.in-Data.is)

@@ -3,9 +3,9 @@ use Rattle.lua_heap.proofs.HeapLemmas.{entry-there, IsHeap-set_raw, Becomes-set_
 use Rattle.lua_heap.proofs.heap.Heap.set_raw.Goals as goal
 
 pub returns-in_err-put-clause-placed : goal.returns-in_err-put-clause-placed
-returns-in_err-put-clause-placed c = λ closure placed.
+returns-in_err-put-clause-placed c = λ placed.
     let there = entry-there _ _ c.place.result c.args.id c.index_mut-entry.result.now c.self.view_is c.place.ensures c.requires.table c.index_mut-entry.ensures.value in
-    let has = has_place-raw _ _ c.self.invariant c.self.view_is c.place.result c.args.id c.place.ensures c.index_mut-entry.result.now there c.args.key c.args.value c.requires.key c.put.new.table closure placed in
+    let has = has_place-raw _ _ c.self.invariant c.self.view_is c.place.result c.args.id c.place.ensures c.index_mut-entry.result.now there c.args.key c.args.value c.requires.key c.put.new.table placed in
     absurd (true≢false (sym (c.in_err-put.ensures.placed has)))
 
 pub invariant_of-self-2 : goal.invariant_of-self-2
