@@ -12,6 +12,7 @@ use Rattle.event_queue.specs.Closing.{numbers_of, AreAllBack, OfEach, OfFirst, E
 use Rattle.event_queue.specs.Passes.{QueueId, PassView}
 use Rattle.event_queue.specs.Routes.{Routed, events, through, sent_by}
 use Rattle.event_queue.specs.Rule.{Polls, Stood}
+use Rattle.event_queue.specs.Views.{view, popped as one_popped}
 use Rattle.event_queue.proofs.Routing.{no_head, through_both, kept_as, kept_events, kept_own, kept_other, sent_through}
 
 -- a pass has the number, or none has
@@ -80,3 +81,10 @@ kept_last queue passes kept popped v w h e k first at one =
     let p = (q.each stood.1 (all_popped popped v) stood.3 (omega arith)).polls number in
     ⊎_elim (λ (t : (first.number ≡ 1) × (first.kept ≡ kept) × (first.sent ≡ v.sent ++ kept) × (first.polled ≡ v.polled)). (popped, ap (λ (l : List Sent). popped ++ l) (sym t.1)))
         (λ t. absurd ((p.joined t.0 t.1 t.2).0 (t.3 ∙ one))) (h.back k first at)
+
+-- while the ruled queue is emptied
+pub popped_none : (v : View) → v ≡ all_popped [] v
+popped_none v = ap (λ (l : List Sent). view v.number v.sent l v.made v.joined) (sym (append-nil v.polled))
+
+pub popped_more : (v w u : View) (xs : List Sent) (x : Sent) → w ≡ all_popped xs v → u ≡ one_popped x w → u ≡ all_popped (xs ++ x ∷ []) v
+popped_more v w u xs x so_far more = more ∙ (ap (one_popped x) so_far ∙ ap (λ (l : List Sent). view v.number v.sent l v.made v.joined) (append_assoc v.polled xs (x ∷ [])))

@@ -21,6 +21,10 @@ pub record PassView : Type 0 where
   pub sent : List Sent
   pub polled : List Sent
 
+-- a pass by what it stores and what it knows
+abbrev pub seen : QueueId → ℕ → ℕ → List Sent → View → PassView
+seen queue number empties kept v = record { queue = queue; number = number; empties = empties; kept = kept; sent = v.sent ++ kept; polled = v.polled }
+
 -- the passes of a new queue, numbered from 1, in order
 abbrev pub new_pass : QueueId → ℕ → PassView
 new_pass queue number = record { queue = queue; number = number; empties = 0; kept = []; sent = []; polled = [] }

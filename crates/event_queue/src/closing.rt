@@ -48,6 +48,7 @@ impl EventQueue {
         ensures own { IsSegPassOf self.now.ruled result.0 }
         ensures all { HasAll passes.items self.now.passes result.1.items result.0.me.view.client }
     {
+        let ruled = &self.ruled;
         let place = place_of_first(passes.as_slice());
         let first = passes.remove(place);
         let EventPass {
@@ -65,7 +66,7 @@ impl EventQueue {
                 empties: _,
                 kept: _,
             } = pass;
-            self.ruled.absorb::<GiveUp>(&mut seat, other);
+            ruled.absorb::<GiveUp>(&mut seat, other);
         }
         (seat, kept)
     }

@@ -20,27 +20,21 @@ pub struct EventPass {
 }
 
 impl Model for EventPass {
-    ghost use Rattle.std.specs.Prelude.{◌≡◌, ◌≢◌, ◌<◌, ◌≤◌, ◌++◌, [], None};
+    ghost use Rattle.std.specs.Prelude.{◌≡◌, None};
     ghost use Rattle.std.specs.Coded.{codes};
     ghost use Rattle.variant.specs.contracts.message.Variant as message;
-    ghost use Rattle.event_queue.specs.Passes.{PassView};
+    ghost use Rattle.event_queue.specs.Passes.{PassView, seen};
     ghost use Rattle.event_queue.specs.Ready.{IsReady};
 
     ghost Value = { PassView };
 
     ghost coded = { Prim.hlevel (codes, message.the_row.coded) };
 
-    ghost view = { λ p. record {
-      queue = record {
-        ruled = record { web = p.seat.web; heap = p.seat.heap };
-        passes = p.passes;
-      };
-      number = p.number;
-      empties = p.empties;
-      kept = p.kept.items;
-      sent = p.seat.me.view.client.sent ++ p.kept.items;
-      polled = p.seat.me.view.client.polled;
-    } };
+    ghost view = { λ p.
+        seen (record {
+          ruled = record { web = p.seat.web; heap = p.seat.heap };
+          passes = p.passes;
+        }) p.number p.empties p.kept.items p.seat.me.view.client };
 
     ghost invariant = { λ p.
         IsReady p.number p.passes p.kept.items p.seat.me.view.client
