@@ -10,9 +10,7 @@ use Rattle.variant.specs.declared.event.Sent.{Sent}
 use Rattle.event_queue.specs.declared.view.Joined.{Joined}
 use Rattle.event_queue.specs.declared.view.View.{View}
 use Rattle.event_queue.specs.Closing.{OfEach, Knows, HasAll}
-use Rattle.std.specs.Global.{Global}
-use Rattle.crossbeam_queue.specs.SegTies.{SegId}
-use Rattle.event_queue.specs.Passes.{QueueId, PassView, seen}
+use Rattle.event_queue.specs.Passes.{QueueId, PassView}
 use Rattle.event_queue.specs.Views.{both}
 use Rattle.event_queue.proofs.Lists.{still_there, was_there}
 
@@ -24,11 +22,11 @@ pub record Gathers (all left : List PassView) (queue : QueueId) (kept : List Sen
   pub back : OfEach all (λ p. Knows v kept p ⊎ ((k : ℕ) × (get_elem? left k ≡ some p)))
 
 -- a pass of the queue has its ruled queue and its number of passes
-pub ruled_of : (mine : QueueId) (n e : ℕ) (kept : List Sent) (v : View) (p : PassView) (queue : QueueId) → seen mine n e kept v ≡ p → p.queue ≡ queue → mine.ruled ≡ queue.ruled
-ruled_of mine n e kept v p queue is own = ap (λ (q : PassView). q.queue.ruled) is ∙ ap (λ (q : QueueId). q.ruled) own
+pub ruled_of : (x p : PassView) (queue : QueueId) → x ≡ p → p.queue ≡ queue → x.queue.ruled ≡ queue.ruled
+ruled_of x p queue is own = ap (λ (q : PassView). q.queue.ruled) is ∙ ap (λ (q : QueueId). q.ruled) own
 
-pub passes_of : (mine : QueueId) (n e : ℕ) (kept : List Sent) (v : View) (p : PassView) (queue : QueueId) → seen mine n e kept v ≡ p → p.queue ≡ queue → mine.passes ≡ queue.passes
-passes_of mine n e kept v p queue is own = ap (λ (q : PassView). q.queue.passes) is ∙ ap (λ (q : QueueId). q.passes) own
+pub passes_of : (x p : PassView) (queue : QueueId) → x ≡ p → p.queue ≡ queue → x.queue.passes ≡ queue.passes
+passes_of x p queue is own = ap (λ (q : PassView). q.queue.passes) is ∙ ap (λ (q : QueueId). q.passes) own
 
 -- what the pass that was joined in sent is known
 joined_in : (v w : View) (kept : List Sent) (p : PassView) → w.number ≡ p.number → (p.number ≢ 1 → p.sent ≡ w.sent) → Knows (both v w) kept p

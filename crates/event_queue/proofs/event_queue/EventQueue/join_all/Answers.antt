@@ -26,7 +26,7 @@ loop-pass-init c =
     let number : first.number ≡ 1 = ap (λ p. p.number) same ∙ h.2 in
     let own = all_at (λ p. p.queue ≡ queue) all c.requires.own in
     let mine = own place first at in
-    let ruled = ruled_of _ _ _ _ _ first queue is mine in let count = passes_of _ _ _ _ _ first queue is mine in (
+    let ruled = ruled_of _ first queue is mine in let count = passes_of _ first queue is mine in (
       ((ap (λ r. r.web) ruled, ap (λ r. r.heap) ruled), k.1, k.2),
       subst (λ l. Gathers all l queue inside.kept.items v) (sym c.remove-first.ensures.items)
           (gathers_first all queue place inside.kept.items v first at own (k.0.named ∙ (ap (λ p. p.number) is ∙ number)) (let m = k.0.made in omega arith) number (sym (ap (λ p. p.kept) is)) (sym (ap (λ p. p.sent) is)) (sym (ap (λ p. p.polled) is))),
@@ -36,7 +36,7 @@ pub absorb-requires-clause-queue : goal.absorb-requires-clause-queue
 absorb-requires-clause-queue c =
     let queue = c.args.self.now in let pass = c.in-Some.pass in let rest = c.pop.new.self.items in let k = c.pass.invariant in
     let mine = c.loop-pass.invariant.1.own (length rest) pass (ap (λ l. get_elem? l (length rest)) c.in-Some.ensures.items ∙ at_last rest pass (length rest) refl) in
-    let ruled = ruled_of _ _ _ _ _ pass queue c.pass.view_is mine ∙ sym (ap (λ q. q.ruled) c.self.view_is) in (
+    let ruled = ruled_of _ pass queue c.pass.view_is mine ∙ sym (ap (λ q. q.ruled) c.self.view_is) in (
       subst (λ q. IsSegPassOf q c.loop-pass.seat) (sym (ap (λ q. q.ruled) c.self.view_is)) c.loop-pass.invariant.0,
       ((ap (λ r. r.web) ruled, ap (λ r. r.heap) ruled), k.1, k.2),
     )
