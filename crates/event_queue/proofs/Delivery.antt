@@ -38,8 +38,8 @@ pub in_order : (passes : List PassView) (all : List Sent) → AreDelivered passe
 in_order passes all d s k p at only =
     let rs = d.routes in
     let none : (q : ℕ) → q ≢ p.number → sent_by s (through q rs) ≡ [] = λ q ne. ⊎_elim
-        (λ h. ap (λ (n : ℕ). sent_by s (through n rs)) (sym h.3) ∙ (ap (sent_by s) (d.whole h.0 h.1 h.2) ∙ only h.0 h.1 h.2 (λ e. ne (sym h.3 ∙ e))))
-        (λ no. ap (sent_by s) (d.no_other q no)) (find_number passes q) in
+    (λ h. ap (λ (n : ℕ). sent_by s (through n rs)) (sym h.3) ∙ (ap (sent_by s) (d.whole h.0 h.1 h.2) ∙ only h.0 h.1 h.2 (λ e. ne (sym h.3 ∙ e))))
+    (λ no. ap (sent_by s) (d.no_other q no)) (find_number passes q) in
     ap (sent_by s) (sym d.events_are) ∙ (sent_through s p.number rs none ∙ ap (sent_by s) (d.whole k p at))
 
 nothing_waits : (W : List Routed) → events W ≡ [] → W ≡ []
@@ -54,9 +54,9 @@ by_rule queue passes kept popped v P W holder j all h none own p k first at one 
     let rs : List Routed = P ++ kept_as 1 kept in
     let through_1 : through 1 rs ≡ v.sent ++ kept = through_both 1 P (kept_as 1 kept) ∙ ((λ i. sym (polled 1) i ++ kept_own 1 kept i) ∙ ap (λ (l : List Sent). l ++ kept) (sym own)) in
     let through_else : (q : ℕ) → q ≢ 1 → through q rs ≡ through q (P ++ W) = λ q ne.
-        through_both q P (kept_as 1 kept) ∙ (ap (λ (l : List Sent). through q P ++ l) (kept_other 1 q kept ne) ∙ (append-nil (through q P) ∙ sym (polled q))) in
+    through_both q P (kept_as 1 kept) ∙ (ap (λ (l : List Sent). through q P ++ l) (kept_other 1 q kept ne) ∙ (append-nil (through q P) ∙ sym (polled q))) in
     let polled_is : first.polled ≡ v.polled = ⊎_elim (λ (t : (first.number ≡ 1) × (first.kept ≡ kept) × (first.sent ≡ v.sent ++ kept) × (first.polled ≡ v.polled)). t.3)
-        (λ t. absurd ((p.joined t.0 t.1 t.2).0 (t.3 ∙ one))) (h.back k first at) in record {
+    (λ t. absurd ((p.joined t.0 t.1 t.2).0 (t.3 ∙ one))) (h.back k first at) in record {
       routes = rs;
       events_are = map-append (λ (r : Routed). r.sent) P (kept_as 1 kept)
           ∙ ((λ i. sym p.polled_is i ++ kept_events 1 kept i) ∙ (append_assoc v.polled popped kept ∙ ap (λ (l : List Sent). l ++ (popped ++ kept)) (sym polled_is)));
@@ -80,7 +80,7 @@ kept_last queue passes kept popped v w h e k first at one =
     let stood : Stood [] (all_popped popped v) = subst (Stood []) e.0 e.1 in let q = stood.2 in let number = h.first in
     let p = (q.each stood.1 (all_popped popped v) stood.3 (omega arith)).polls number in
     ⊎_elim (λ (t : (first.number ≡ 1) × (first.kept ≡ kept) × (first.sent ≡ v.sent ++ kept) × (first.polled ≡ v.polled)). (popped, ap (λ (l : List Sent). popped ++ l) (sym t.1)))
-        (λ t. absurd ((p.joined t.0 t.1 t.2).0 (t.3 ∙ one))) (h.back k first at)
+    (λ t. absurd ((p.joined t.0 t.1 t.2).0 (t.3 ∙ one))) (h.back k first at)
 
 -- while the ruled queue is emptied
 pub popped_none : (v : View) → v ≡ all_popped [] v

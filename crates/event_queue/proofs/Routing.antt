@@ -103,6 +103,6 @@ sent_through s p [] only = refl
 sent_through s p (r ∷ rs) only = let so_far = sent_through s p rs (λ q ne. sent_none s q r rs (only q ne)) in dite (ℕ_discrete r.pass p)
     (λ same. ap (λ (l : List Sent). cond (r.sent.from == s) (r.sent ∷ l) l) so_far ∙ sym (ap (λ (b : Bool). sent_by s (cond b (r.sent ∷ through p rs) (through p rs))) (eq-eqb r.pass p same)))
     (λ ne. let own : cond (r.sent.from == s) (r.sent ∷ sent_by s (through r.pass rs)) (sent_by s (through r.pass rs)) ≡ [] =
-            sym (ap (λ (b : Bool). sent_by s (cond b (r.sent ∷ through r.pass rs) (through r.pass rs))) (eq-eqb r.pass r.pass refl)) ∙ only r.pass ne in
-        ap (λ (b : Bool). cond b (r.sent ∷ sent_by s (events rs)) (sent_by s (events rs))) (cond_none (r.sent.from == s) r.sent (sent_by s (through r.pass rs)) (sent_by s (through r.pass rs)) own)
-        ∙ (so_far ∙ sym (ap (λ (b : Bool). sent_by s (cond b (r.sent ∷ through p rs) (through p rs))) (ne_eqb r.pass p ne))))
+    sym (ap (λ (b : Bool). sent_by s (cond b (r.sent ∷ through r.pass rs) (through r.pass rs))) (eq-eqb r.pass r.pass refl)) ∙ only r.pass ne in
+    ap (λ (b : Bool). cond b (r.sent ∷ sent_by s (events rs)) (sent_by s (events rs))) (cond_none (r.sent.from == s) r.sent (sent_by s (through r.pass rs)) (sent_by s (through r.pass rs)) own)
+    ∙ (so_far ∙ sym (ap (λ (b : Bool). sent_by s (cond b (r.sent ∷ through p rs) (through p rs))) (ne_eqb r.pass p ne))))

@@ -128,9 +128,9 @@ can_give j v x one items views q at =
       kept = q.kept;
       each = λ i u e pos. ⊎_elim
           (λ old. ⊎_elim (λ h. there (P ++ r ∷ []) W q.holder i j (gave x v) u h.0 h.1 knows)
-              (λ h. let k = q.each i u h.1 pos in let other : (m : ℕ) → q.holder m ≡ i → m ≢ 1 = λ m at_i. apart q.holder i j 1 m at_i (ap q.holder (sym one) ∙ mine.own) h.0 in
-                  later P W (P ++ r ∷ []) W q.holder q.holder i u (λ m at_i. (at_i, between_other 1 m x P W (other m at_i))) (λ first. absurd (other u.number k.own first)) k)
-              (at_set views j i (gave x v) u old))
+          (λ h. let k = q.each i u h.1 pos in let other : (m : ℕ) → q.holder m ≡ i → m ≢ 1 = λ m at_i. apart q.holder i j 1 m at_i (ap q.holder (sym one) ∙ mine.own) h.0 in
+          later P W (P ++ r ∷ []) W q.holder q.holder i u (λ m at_i. (at_i, between_other 1 m x P W (other m at_i))) (λ first. absurd (other u.number k.own first)) k)
+          (at_set views j i (gave x v) u old))
           (λ is. absurd (let z : 0 ≡ u.number = ap (λ (y : View). y.number) is in omega arith))
           (at_snoc (set views j (gave x v)) spent u i e);
     }
@@ -172,8 +172,8 @@ can_make j v one items views q at =
       kept = q.kept;
       each = λ i u e pos. ⊎_elim
           (λ old. ⊎_elim (λ h. there P W holder i j (makes_one v) u h.0 h.1 knows)
-              (λ h. later P W P W q.holder holder i u (λ m at_i. (assigned_else q.holder n k m (apart q.holder i j n m at_i new.0 h.0) ∙ at_i, refl)) (λ _. refl) (q.each i u h.1 pos))
-              (at_set views j i (makes_one v) u old))
+          (λ h. later P W P W q.holder holder i u (λ m at_i. (assigned_else q.holder n k m (apart q.holder i j n m at_i new.0 h.0) ∙ at_i, refl)) (λ _. refl) (q.each i u h.1 pos))
+          (at_set views j i (makes_one v) u old))
           (λ h. there P W holder i k (newcomer v) u h.0 h.1 fresh)
           (at_end vs (newcomer v) u i e);
     }
@@ -207,8 +207,8 @@ can_join j v o w one real items views q at two at' =
       kept = q.kept;
       each = λ i u e pos. ⊎_elim (λ h. absurd (let z : 0 ≡ u.number = ap (λ (y : View). y.number) h.1 in omega arith))
           (λ h. ⊎_elim (λ g. there P W holder i j (both v w) u g.0 g.1 knows)
-              (λ g. later P W P W q.holder holder i u (λ m at_i. (assigned_else q.holder n j m (apart q.holder i o n m at_i theirs.own h.0) ∙ at_i, refl)) (λ _. refl) (q.each i u g.1 pos))
-              (at_set views j i (both v w) u h.1))
+          (λ g. later P W P W q.holder holder i u (λ m at_i. (assigned_else q.holder n j m (apart q.holder i o n m at_i theirs.own h.0) ∙ at_i, refl)) (λ _. refl) (q.each i u g.1 pos))
+          (at_set views j i (both v w) u h.1))
           (at_set vs o i spent u e);
     }
 

@@ -28,5 +28,5 @@ pub sent_pushed : (queue : QueueId) (n e : ℕ) (kept : List Sent) (v w : View) 
 sent_pushed queue n e kept v w x p other none is_w is =
     let keeps : kept ≡ cond (n == 1) (kept ++ x ∷ []) kept = sym (ap (λ (b : Bool). cond b (kept ++ x ∷ []) kept) (ne_eqb n 1 other)) in
     let all : (v.sent ++ x ∷ []) ++ kept ≡ (v.sent ++ kept) ++ x ∷ [] =
-        ap (λ (l : List Sent). (v.sent ++ x ∷ []) ++ l) none ∙ (append-nil (v.sent ++ x ∷ []) ∙ sym (ap (λ (l : List Sent). l ++ x ∷ []) (ap (λ (l : List Sent). v.sent ++ l) none ∙ append-nil v.sent))) in
+    ap (λ (l : List Sent). (v.sent ++ x ∷ []) ++ l) none ∙ (append-nil (v.sent ++ x ∷ []) ∙ sym (ap (λ (l : List Sent). l ++ x ∷ []) (ap (λ (l : List Sent). v.sent ++ l) none ∙ append-nil v.sent))) in
     ap (seen queue n e kept) is_w ∙ ((λ i. record { queue = queue; number = n; empties = e; kept = keeps i; sent = all i; polled = v.polled }) ∙ ap (after_send x) is)

@@ -32,6 +32,7 @@ struct Plan {
 }
 
 // What came of a run.
+#[derive(Drop)]
 struct Outcome {
     polled: Vec<Sent>,
     left: List<Sent>,

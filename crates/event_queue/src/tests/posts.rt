@@ -59,7 +59,10 @@ pub(super) fn send_all<R: Wait>(
 {
     let from = pass.number();
     for number in 1..=count {
-        if queue.send(rt, &mut pass, event(alloc, from, number)).is_err() {
+        if queue
+            .send(rt, &mut pass, event(alloc, from, number))
+            .is_err()
+        {
             break;
         }
     }

@@ -67,9 +67,7 @@ fn send<R: Wait>(
     ensures own { pass.new.queue ≡ pass.old.queue }
     ensures number { pass.new.number ≡ pass.old.number }
 {
-    queue
-        .send(rt, pass, event(alloc, post.0, post.1))
-        .is_ok()
+    queue.send(rt, pass, event(alloc, post.0, post.1)).is_ok()
 }
 
 // Sends two events through pass 1 and three through pass 2, of which the last is another state's.
@@ -120,6 +118,7 @@ fn polls<R: Wait>(
 }
 
 // What came of sending five events and polling some.
+#[derive(Drop)]
 struct Outcome {
     found: Vec<Option<Post>>,
     // The empty polls of both passes.
@@ -201,9 +200,7 @@ fn through<R: Wait>(rt: &R, alloc: Global, name: &[u8]) -> Result<Option<Sent>, 
 
 #[test]
 fn an_event_comes_as_it_was_sent(rt: HostRuntime) -> Result<(), Fail> {
-    let sent = through(&rt, rt.alloc(), b"done")
-        .ok()
-        .expect(&rt, "memory");
+    let sent = through(&rt, rt.alloc(), b"done").ok().expect(&rt, "memory");
     let Some(sent) = sent else {
         panic!(rt; "nothing came");
     };
