@@ -1,14 +1,13 @@
 -- What was polled and what is left, once all passes are joined and the ruled queue is empty.
-use Rattle.std.proofs.Common.{◌≡◌, ◌≢◌, ◌⊎◌, ℕ, ◌<◌, ◌≤◌, zero, suc, Contains, List, [], ◌∷◌, ◌++◌, length, map, get_or, sym, refl, ap, ◌∙◌, subst, inl, inr, ⊎_elim, arith, append_assoc, append-nil}
+use Rattle.std.proofs.Common.{◌≡◌, ◌≢◌, ◌⊎◌, ℕ, ◌<◌, zero, suc, Contains, List, [], ◌∷◌, ◌++◌, length, get_or, sym, refl, ap, ◌∙◌, subst, inl, inr, ⊎_elim, arith, append_assoc, append-nil}
 use Rattle.std.proofs.lemmas.List.{map-append}
 use mathlib.Core.Logic.{dite}
 use mathlib.Core.Option.{some, some-injective, some-ne-none}
 use native.Mathlib.Decide.{dec_le, ℕ_discrete}
 use lib.ListN.{get_elem?}
 use Rattle.variant.specs.declared.event.Sent.{Sent}
-use Rattle.event_queue.specs.declared.view.Joined.{Joined}
 use Rattle.event_queue.specs.declared.view.View.{View}
-use Rattle.event_queue.specs.Closing.{numbers_of, AreAllBack, OfEach, OfFirst, EndsWith, AreDelivered, SendsThrough, AreInOrder, Knows, HasAll, all_popped, Emptied}
+use Rattle.event_queue.specs.Closing.{numbers_of, AreAllBack, OfEach, OfFirst, EndsWith, AreDelivered, AreInOrder, HasAll, all_popped, Emptied}
 use Rattle.event_queue.specs.Passes.{QueueId, PassView}
 use Rattle.event_queue.specs.Routes.{Routed, events, through, sent_by}
 use Rattle.event_queue.specs.Rule.{Polls, Stood}

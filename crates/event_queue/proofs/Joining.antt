@@ -1,5 +1,5 @@
 -- The passes that are given back, while they are joined into pass 1.
-use Rattle.std.proofs.Common.{◌≡◌, ◌≢◌, ◌⊎◌, ℕ, ◌<◌, ◌≤◌, zero, suc, List, [], ◌∷◌, ◌++◌, length, sym, refl, ap, ◌∙◌, subst, inl, inr, ⊎_elim, arith, append-nil}
+use Rattle.std.proofs.Common.{◌≡◌, ◌≢◌, ◌⊎◌, ℕ, ◌≤◌, List, [], ◌∷◌, ◌++◌, length, sym, refl, ap, ◌∙◌, subst, inl, inr, ⊎_elim}
 use Rattle.std.specs.Prelude.{remove}
 use mathlib.Core.Logic.{dite}
 use mathlib.Core.Option.{some, some-injective, some-ne-none}
@@ -7,7 +7,6 @@ use native.Mathlib.Decide.{ℕ_discrete}
 use lib.ListN.{get_elem?}
 use Rattle.crossbeam_queue.proofs.Lists.{at_longer, at_last, at_snoc}
 use Rattle.variant.specs.declared.event.Sent.{Sent}
-use Rattle.event_queue.specs.declared.view.Joined.{Joined}
 use Rattle.event_queue.specs.declared.view.View.{View}
 use Rattle.event_queue.specs.Closing.{OfEach, Knows, HasAll}
 use Rattle.event_queue.specs.Passes.{QueueId, PassView}

@@ -1,5 +1,5 @@
 -- A pass is ready for its next call after each step.
-use Rattle.std.proofs.Common.{◌≡◌, ◌≢◌, ℕ, List, [], ◌∷◌, ap, ◌∙◌}
+use Rattle.std.proofs.Common.{◌≡◌, ℕ, List, []}
 use Rattle.variant.specs.declared.event.Sent.{Sent}
 use Rattle.event_queue.specs.declared.view.View.{View}
 use Rattle.event_queue.specs.Ready.{IsReady, IsNew}

@@ -1,5 +1,5 @@
 -- Each step keeps the rule of the queue.
-use Rattle.std.proofs.Common.{◌≡◌, ◌≢◌, ◌⊎◌, ℕ, ◌+◌, ◌<◌, ◌≤◌, ◌==◌, Bool, cond, zero, suc, List, [], ◌∷◌, ◌++◌, length, set, sym, refl, ap, ◌∙◌, subst, inl, inr, ⊎_elim, arith, eq-eqb, ne_eqb, append_assoc, append-nil}
+use Rattle.std.proofs.Common.{◌≡◌, ◌≢◌, ◌⊎◌, ℕ, ◌+◌, ◌<◌, ◌≤◌, ◌==◌, Bool, cond, zero, suc, List, [], ◌∷◌, ◌++◌, length, set, sym, refl, ap, ◌∙◌, subst, inl, inr, ⊎_elim, arith, eq-eqb, ne_eqb, append_assoc}
 use mathlib.Core.Logic.{dite}
 use mathlib.Core.Option.{some, some-injective, some-ne-none}
 use native.Mathlib.Decide.{dec_le, ℕ_discrete}
@@ -10,8 +10,8 @@ use Rattle.variant.specs.declared.event.Sent.{Sent}
 use Rattle.event_queue.specs.declared.view.Joined.{Joined}
 use Rattle.event_queue.specs.declared.view.View.{View}
 use Rattle.event_queue.specs.Routes.{Routed, events, through}
-use Rattle.event_queue.specs.Rule.{IsUnused, Polls, Knows, Queued, Stood}
-use Rattle.event_queue.specs.Views.{view, first_view, spent, pushed, popped, gave, makes_one, newcomer, both}
+use Rattle.event_queue.specs.Rule.{Knows, Queued, Stood}
+use Rattle.event_queue.specs.Views.{first_view, spent, pushed, popped, gave, makes_one, newcomer, both}
 use Rattle.event_queue.proofs.Routing.{routed, head_is, tail_is, no_head, events_more, through_rest, last_own, last_other, between_own, between_other}
 
 -- what a pass knows stays true where nothing was sent through the numbers that it has, and they stay with it

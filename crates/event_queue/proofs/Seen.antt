@@ -1,5 +1,5 @@
 -- How a pass is seen after each call.
-use Rattle.std.proofs.Common.{◌≡◌, ◌≢◌, ℕ, ◌==◌, Bool, cond, List, [], ◌∷◌, ◌++◌, sym, refl, ap, ◌∙◌, eq-eqb, ne_eqb, append_assoc, append-nil}
+use Rattle.std.proofs.Common.{◌≡◌, ◌≢◌, ℕ, ◌==◌, Bool, cond, List, [], ◌∷◌, ◌++◌, sym, ap, ◌∙◌, eq-eqb, ne_eqb, append_assoc, append-nil}
 use Rattle.variant.specs.declared.event.Sent.{Sent}
 use Rattle.event_queue.specs.declared.view.View.{View}
 use Rattle.event_queue.specs.Passes.{QueueId, PassView, seen, after_send, Held}

@@ -1,5 +1,5 @@
 -- Events, with the pass through which each was sent.
-use Rattle.std.specs.Prelude.{◌≡◌, ℕ, ◌==◌, List, [], ◌∷◌, map, if◌then◌else◌}
+use Rattle.std.specs.Prelude.{ℕ, ◌==◌, List, [], ◌∷◌, map, if◌then◌else◌}
 use Rattle.variant.specs.declared.event.Sent.{Sent}
 
 -- an event, and the number of the pass that it was sent through

@@ -9,8 +9,6 @@ mod event_pass;
 mod event_queue;
 mod opening;
 mod steps;
-#[cfg(test)]
-mod tests;
 mod view;
 
 pub use event_pass::EventPass;

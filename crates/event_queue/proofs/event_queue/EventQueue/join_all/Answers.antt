@@ -1,4 +1,4 @@
-use Rattle.std.proofs.Common.{◌≡◌, ◌∷◌, ◌++◌, [], length, get_or, sym, refl, subst, ap, ◌∙◌, arith, append-nil}
+use Rattle.std.proofs.Common.{◌≡◌, ◌++◌, length, sym, refl, subst, ap, ◌∙◌, arith, append-nil}
 use lib.ListN.{get_elem?}
 use mathlib.Core.Option.{some}
 use Rattle.crossbeam_queue.proofs.Lists.{at_last}
