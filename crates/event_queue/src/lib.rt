@@ -9,6 +9,8 @@ mod event_pass;
 mod event_queue;
 mod opening;
 mod steps;
+#[cfg(test)]
+mod tests;
 mod view;
 
 pub use event_pass::EventPass;
