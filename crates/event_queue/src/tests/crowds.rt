@@ -145,11 +145,13 @@ fn at_once<R: Threads + Wait + Sync>(
         { poll_all(rt, queue, first, plan.polled, Vec::new(alloc), signal) },
         move || -> Result<Vec<EventPass>, AllocError>
             requires { All (λ p. p.queue ≡ queue.now) others.items × AreNumbered 2 others.items }
-            ensures { IfOk result (λ back. All (λ p. p.queue ≡ queue.entry.now) back.items
-                × AreNumbered 2 back.items × (vec_len back ≡ vec_len others)) }
+            ensures { IfOk result (λ back. All (λ p. p.queue ≡ queue.entry.now) back.items)
+                × IfOk result (λ back. AreNumbered 2 back.items)
+                × IfOk result (λ back. vec_len back ≡ vec_len others) }
         { send_by_each(rt, alloc, queue, others, plan.count, waits) },
     );
-    Ok((first, polled, others?))
+    let others = others?;
+    Ok((first, polled, others))
 }
 
 // Sends, and polls once all senders have ended.
