@@ -1,0 +1,9 @@
+pub mod Lists
+pub mod Routing
+pub mod Rule
+pub mod Ready
+pub mod Seen
+pub mod Dealing
+pub mod Delivery
+pub mod Joining
+pub mod Callers
