@@ -2,14 +2,14 @@
 ghost use Rattle.std.specs.Prelude.{◌≡◌, ◌<◌, ◌≤◌, All, IfOk, vec_len};
 ghost use Rattle.event_queue.specs.Passes.{AreNumbered};
 
-use crate::tests::posts::{closed, in_order, opened, put_together, send_all, split};
+use crate::tests::posts::{closed, in_order, opened, send_all};
 use crate::{EventPass, EventQueue};
 use love_base::{List, Memory};
 use std::alloc::{AllocError, Global};
-use std::sync::Wait;
 use std::sync::atomic::{AtomicU64, Ordering};
+use std::sync::{Mutex, Wait};
 use std::test::Fail;
-use std::thread::{Threads, join, map_vec, yield_now};
+use std::thread::{Threads, map_vec, yield_now};
 use variant::Sent;
 
 // When the threads of a run begin.
@@ -31,6 +31,16 @@ struct Plan {
     order: Order,
 }
 
+// What the threads of a run share beside the queue.
+#[derive(Drop)]
+struct Signs {
+    polled: Mutex<Vec<Sent>>,
+    // How many polls found nothing.
+    empties: AtomicU64,
+    // How many senders have ended.
+    ended: AtomicU64,
+}
+
 // What came of a run.
 #[derive(Drop)]
 struct Outcome {
@@ -39,44 +49,10 @@ struct Outcome {
     empties: u64,
 }
 
-// Polls until so many events came or memory is wanting. Each poll that found nothing raises the signal.
-fn poll_all<R: Wait>(
-    rt: &R,
-    queue: &EventQueue,
-    mut pass: EventPass,
-    wanted: usize,
-    mut polled: Vec<Sent>,
-    signal: &AtomicU64,
-) -> (EventPass, Vec<Sent>)
-    requires own { pass.queue ≡ queue.now }
-    requires first { pass.number ≡ 1 }
-    ensures own { result.0.queue ≡ queue.now }
-    ensures number { result.0.number ≡ 1 }
-{
+// Waits until the number is at least this one.
+fn wait_for<R: Wait>(rt: &R, number: &AtomicU64, least: u32) {
     for _ in rt.forever() {
-        if polled.len() >= wanted {
-            break;
-        }
-        match queue.poll(rt, &mut pass) {
-            Some(sent) => {
-                if polled.push(sent).is_err() {
-                    break;
-                }
-            }
-            None => {
-                signal.store(1, Ordering::SeqCst);
-                yield_now();
-            }
-        }
-    }
-    signal.store(1, Ordering::SeqCst);
-    (pass, polled)
-}
-
-// Waits until the signal is raised.
-fn wait_for<R: Wait>(rt: &R, signal: &AtomicU64) {
-    for _ in rt.forever() {
-        if signal.load(Ordering::SeqCst) > 0 {
+        if number.load(Ordering::SeqCst) >= u64::from(least) {
             return;
         }
         yield_now();
@@ -84,19 +60,80 @@ fn wait_for<R: Wait>(rt: &R, signal: &AtomicU64) {
     unreachable!()
 }
 
-// Sends events in as many threads as there are passes, once the signal is raised if they wait for it.
-fn send_by_each<R: Threads + Wait + Sync>(
+// Polls until so many events came or memory is wanting.
+fn poll_all<R: Wait>(
+    rt: &R,
+    queue: &EventQueue,
+    mut pass: EventPass,
+    plan: Plan,
+    signs: &Signs,
+) -> EventPass
+    requires own { pass.queue ≡ queue.now }
+    requires first { pass.number ≡ 1 }
+    ensures own { result.queue ≡ queue.now }
+    ensures number { result.number ≡ 1 }
+{
+    if plan.order == Order::SendersFirst {
+        wait_for(rt, &signs.ended, plan.senders);
+    }
+    let mut count = 0;
+    for _ in rt.forever() {
+        if count >= plan.polled {
+            break;
+        }
+        match queue.poll(rt, &mut pass) {
+            Some(sent) => {
+                if signs.polled.lock(rt).push(sent).is_err() {
+                    break;
+                }
+                count += 1;
+            }
+            None => {
+                signs.empties.store(pass.empties(), Ordering::SeqCst);
+                yield_now();
+            }
+        }
+    }
+    pass
+}
+
+// Polls through pass 1, and sends through any other.
+fn take_part<R: Wait>(
+    rt: &R,
+    alloc: Global,
+    queue: &EventQueue,
+    pass: EventPass,
+    plan: Plan,
+    signs: &Signs,
+) -> EventPass
+    requires own { pass.queue ≡ queue.now }
+    ensures own { result.queue ≡ queue.now }
+    ensures number { result.number ≡ pass.number }
+{
+    if pass.number() == 1 {
+        return poll_all(rt, queue, pass, plan, signs);
+    }
+    if plan.order == Order::PollerFirst {
+        wait_for(rt, &signs.empties, 1);
+    }
+    let pass = send_all(rt, alloc, queue, pass, plan.count);
+    signs.ended.fetch_add(1, Ordering::SeqCst);
+    pass
+}
+
+// As many threads as there are passes take part.
+fn crowd<R: Threads + Wait + Sync>(
     rt: &R,
     alloc: Global,
     queue: &EventQueue,
     passes: Vec<EventPass>,
-    count: u32,
-    signal: Option<&AtomicU64>,
+    plan: Plan,
+    signs: &Signs,
 ) -> Result<Vec<EventPass>, AllocError>
     requires own { All (λ p. p.queue ≡ queue.now) passes.items }
-    requires numbered { AreNumbered 2 passes.items }
+    requires numbered { AreNumbered 1 passes.items }
     ensures own { IfOk result (λ back. All (λ p. p.queue ≡ queue.now) back.items) }
-    ensures numbered { IfOk result (λ back. AreNumbered 2 back.items) }
+    ensures numbered { IfOk result (λ back. AreNumbered 1 back.items) }
     ensures count { IfOk result (λ back. vec_len back ≡ vec_len passes) }
 {
     map_vec(
@@ -105,76 +142,8 @@ fn send_by_each<R: Threads + Wait + Sync>(
         &|pass: EventPass| -> EventPass
             requires { pass.queue ≡ queue.now }
             ensures { (result.queue ≡ queue.entry.now) × (result.number ≡ pass.number) }
-        {
-            if let Some(signal) = signal {
-                wait_for(rt, signal);
-            }
-            send_all(rt, alloc, queue, pass, count)
-        },
+        { take_part(rt, alloc, queue, pass, plan, signs) },
     )
-}
-
-// The passes, and what was polled, once all threads have ended.
-type Ended = (EventPass, Vec<Sent>, Vec<EventPass>);
-
-// Sends and polls at the same time.
-fn at_once<R: Threads + Wait + Sync>(
-    rt: &R,
-    alloc: Global,
-    queue: &EventQueue,
-    first: EventPass,
-    others: Vec<EventPass>,
-    plan: Plan,
-) -> Result<Ended, AllocError>
-    requires first { (first.queue ≡ queue.now) × (first.number ≡ 1) }
-    requires own { All (λ p. p.queue ≡ queue.now) others.items }
-    requires numbered { AreNumbered 2 others.items }
-    ensures first { IfOk result (λ e. (e.0.queue ≡ queue.now) × (e.0.number ≡ 1)) }
-    ensures own { IfOk result (λ e. All (λ p. p.queue ≡ queue.now) e.2.items) }
-    ensures numbered { IfOk result (λ e. AreNumbered 2 e.2.items) }
-    ensures count { IfOk result (λ e. vec_len e.2 ≡ vec_len others) }
-{
-    let signal = AtomicU64::new(0);
-    let signal = &signal;
-    let waits = (plan.order == Order::PollerFirst).then_some(signal);
-    let ((first, polled), others) = join(
-        rt,
-        move || -> (EventPass, Vec<Sent>)
-            requires { (first.queue ≡ queue.now) × (first.number ≡ 1) }
-            ensures { (result.0.queue ≡ queue.entry.now) × (result.0.number ≡ 1) }
-        { poll_all(rt, queue, first, plan.polled, Vec::new(alloc), signal) },
-        move || -> Result<Vec<EventPass>, AllocError>
-            requires { All (λ p. p.queue ≡ queue.now) others.items × AreNumbered 2 others.items }
-            ensures { IfOk result (λ back. All (λ p. p.queue ≡ queue.entry.now) back.items)
-                × IfOk result (λ back. AreNumbered 2 back.items)
-                × IfOk result (λ back. vec_len back ≡ vec_len others) }
-        { send_by_each(rt, alloc, queue, others, plan.count, waits) },
-    );
-    let others = others?;
-    Ok((first, polled, others))
-}
-
-// Sends, and polls once all senders have ended.
-fn one_after_the_other<R: Threads + Wait + Sync>(
-    rt: &R,
-    alloc: Global,
-    queue: &EventQueue,
-    first: EventPass,
-    others: Vec<EventPass>,
-    plan: Plan,
-) -> Result<Ended, AllocError>
-    requires first { (first.queue ≡ queue.now) × (first.number ≡ 1) }
-    requires own { All (λ p. p.queue ≡ queue.now) others.items }
-    requires numbered { AreNumbered 2 others.items }
-    ensures first { IfOk result (λ e. (e.0.queue ≡ queue.now) × (e.0.number ≡ 1)) }
-    ensures own { IfOk result (λ e. All (λ p. p.queue ≡ queue.now) e.2.items) }
-    ensures numbered { IfOk result (λ e. AreNumbered 2 e.2.items) }
-    ensures count { IfOk result (λ e. vec_len e.2 ≡ vec_len others) }
-{
-    let others = send_by_each(rt, alloc, queue, others, plan.count, None)?;
-    let signal = AtomicU64::new(0);
-    let (first, polled) = poll_all(rt, queue, first, plan.polled, Vec::new(alloc), &signal);
-    Ok((first, polled, others))
 }
 
 // What comes of a run.
@@ -182,17 +151,21 @@ fn run<R: Threads + Wait + Sync>(rt: &R, alloc: Global, plan: Plan) -> Result<Ou
     requires { (0 < plan.senders) × (plan.senders ≤ 16) }
 {
     let (queue, passes) = opened(alloc, plan.senders + 1)?;
-    let (first, others) = split(passes, &queue);
-    let (first, polled, others) = if plan.order == Order::SendersFirst {
-        one_after_the_other(rt, alloc, &queue, first, others, plan)?
-    } else {
-        at_once(rt, alloc, &queue, first, others, plan)?
+    let signs = Signs {
+        polled: Mutex::new(Vec::new(alloc)),
+        empties: AtomicU64::new(0),
+        ended: AtomicU64::new(0),
     };
-    let empties = first.empties();
-    let passes = put_together(first, others, &queue)?;
+    let passes = crowd(rt, alloc, &queue, passes, plan, &signs)?;
     let left = closed(rt, queue, passes)?;
-    Ok(Outcome {
+    let empties = signs.empties.load(Ordering::SeqCst);
+    let Signs {
         polled,
+        empties: _,
+        ended: _,
+    } = signs;
+    Ok(Outcome {
+        polled: polled.into_inner(),
         left,
         empties,
     })
