@@ -106,10 +106,12 @@ pub fn love<F: Folder, S: Sink>(
 fn play<S: Sink>(alloc: Global, program: &[Statement], sink: &mut S) -> Report
     requires { length program.now < entry_limit }
     ensures status { SaysRanWhole result.status ⊎ (result.status ≡ code_of Ending.OutOfMemory) }
-    ensures failed { result.status ≡ code_of Ending.Unwritten → HasRisen (S.faults sink.old) (S.faults sink.new) }
+    ensures failed { result.status ≡ code_of Ending.Unwritten
+        → HasRisen (S.faults sink.old) (S.faults sink.new) }
     ensures told { S.faults sink.old < S.faults sink.new
         → (result.status ≡ code_of Ending.Unwritten)
-        ⊎ ((result.status ≡ code_of Ending.OutOfMemory) × RanInPart program.now result.out result.channels) }
+        ⊎ ((result.status ≡ code_of Ending.OutOfMemory)
+        × RanInPart program.now result.out result.channels) }
     ensures ran_whole { SaysRanWhole result.status
         → RanWhole program.now result.out result.channels }
     ensures ran_in_part { result.status ≡ code_of Ending.OutOfMemory
