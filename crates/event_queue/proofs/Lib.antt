@@ -6,4 +6,5 @@ pub mod Seen
 pub mod Dealing
 pub mod Delivery
 pub mod Joining
+pub mod Calls
 pub mod Callers

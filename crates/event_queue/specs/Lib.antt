@@ -4,3 +4,4 @@ pub mod Rule
 pub mod Ready
 pub mod Passes
 pub mod Closing
+pub mod Calls

@@ -7,6 +7,7 @@
 mod closing;
 mod event_pass;
 mod event_queue;
+pub mod laws;
 mod opening;
 mod steps;
 #[cfg(test)]
