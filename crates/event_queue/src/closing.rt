@@ -93,8 +93,8 @@ impl EventQueue {
         unreachable!()
     }
 
-    /// Gives the events that remain in the ruled queue, the oldest first, and behind them those that
-    /// pass 1 keeps.
+    /// Gives the events that remain in the ruled queue, the oldest first, and behind them those
+    /// that pass 1 keeps.
     ///
     /// All of the queue's passes are given back to it, in any order.
     ///

@@ -5,8 +5,8 @@ use std::collections::VecDeque;
 use std::marker::Model;
 use variant::Sent;
 
-/// The right to send events to one queue, and with pass 1 to poll them. Each thread has its own. One
-/// that is dropped can't be given back, and then the queue can't tell what is left.
+/// The right to send events to one queue, and with pass 1 to poll them. Each thread has its own.
+/// One that is dropped can't be given back, and then the queue can't tell what is left.
 #[derive(Drop)]
 pub struct EventPass {
     pub(crate) seat: RuledPass,

@@ -61,7 +61,8 @@ pub fn decode(alloc: Global, format: Format, text: &[u8]) -> Result<Text, Decode
 
 fn decode_base64(alloc: Global, text: &[u8]) -> Result<Text, DecodeFault>
     ensures bytes { IfOk result (λ bytes. decoded Format.Base64 text.now ≡ Some bytes) }
-    ensures not_encoded { result ≡ Err DecodeFault.NotEncoded → decoded Format.Base64 text.now ≡ None }
+    ensures not_encoded { result ≡ Err DecodeFault.NotEncoded
+        → decoded Format.Base64 text.now ≡ None }
 {
     match STANDARD.decode(alloc, text) {
         Ok(bytes) => Ok(Text::from_vec(bytes)),

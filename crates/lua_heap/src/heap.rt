@@ -15,11 +15,11 @@ use lua_table::Table;
 use std::alloc::Global;
 use std::marker::Model;
 
-/// What one state of Lua has made: strings, tables, cells, functions and Data, each found by its id.
-/// Nothing goes before the heap does.
+/// What one state of Lua has made: strings, tables, cells, functions and Data, each found by its
+/// id. Nothing goes before the heap does.
 ///
-/// Contracts see it as the lists of what it has made. What that is to the definitions of a program's
-/// meaning is one function, `store_of`.
+/// Contracts see it as the lists of what it has made. What that is to the definitions of a
+/// program's meaning is one function, `store_of`.
 #[derive(Debug, Drop)]
 pub struct Heap {
     pub(crate) alloc: Global,
@@ -156,8 +156,8 @@ impl Heap {
 // ---- what is read. None of these calls takes memory
 
 impl Heap {
-    /// Whether a value has no id or one that the heap gave, as far as that can be told: an id is its
-    /// place. Each other call asks this of the values that it's given.
+    /// Whether a value has no id or one that the heap gave, as far as that can be told: an id is
+    /// its place. Each other call asks this of the values that it's given.
     #[inline]
     pub fn is_made(&self, value: Value) -> bool
         ensures { IsTrue result ↔ IsMade self.now value }
@@ -171,8 +171,8 @@ impl Heap {
         }
     }
 
-    /// Whether two values of the heap are the same one (Lua 5.1 manual §2.5.2), which no metamethod is
-    /// asked for.
+    /// Whether two values of the heap are the same one (Lua 5.1 manual §2.5.2), which no metamethod
+    /// is asked for.
     #[inline]
     pub fn is_same(&self, a: Value, b: Value) -> bool
         requires a { IsMade self.now a }
@@ -187,7 +187,8 @@ impl Heap {
     pub fn string(&self, id: StrId) -> &[u8]
         requires made { id < length self.now.texts }
         ensures text { slice_get self.now.texts id ≡ Some result.now }
-        ensures one_id { (other : ℕ) → slice_get self.now.texts other ≡ Some result.now → other ≡ id }
+        ensures one_id { (other : ℕ) → slice_get self.now.texts other ≡ Some result.now
+            → other ≡ id }
     {
         self.texts.get(id.place())
     }
@@ -285,8 +286,8 @@ impl Heap {
         self.cells[id.place()] = value;
     }
 
-    /// A table gets a metatable, or loses it (Lua 5.1 manual §5.1, `setmetatable`, without its test of
-    /// `__metatable`). Takes no memory.
+    /// A table gets a metatable, or loses it (Lua 5.1 manual §5.1, `setmetatable`, without its test
+    /// of `__metatable`). Takes no memory.
     pub fn set_meta(&mut self, id: TableId, meta: Option<TableId>)
         requires table { id < length self.old.tables }
         requires made { IsMadeTable self.old meta }

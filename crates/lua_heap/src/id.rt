@@ -124,7 +124,8 @@ impl DataId {
     }
 }
 
-/// The id of a cell, which holds a local that functions share of a heap. Contracts see it as its place.
+/// The id of a cell, which holds a local that functions share of a heap. Contracts see it as its
+/// place.
 #[derive(Clone, Copy, Debug, PartialEq, Eq)]
 pub struct CellId {
     place: usize,

@@ -40,7 +40,8 @@ pub enum Store {
     Loop,
 }
 
-// One value of a chain: what reading or setting comes to, or the handler that is indexed in its place.
+// One value of a chain: what reading or setting comes to, or the handler that is indexed in its
+// place.
 enum Step<T> {
     Ends(T),
     Goes(Value),
@@ -244,7 +245,8 @@ fn look_by(base: &Value, handler: &Value) -> Step<Lookup>
 // Without a handler a table gives nil, and another value has no fields.
 #[inline]
 fn unhandled_read(base: &Value) -> Lookup
-    ensures read { (texts : List Bytes) → lookup_view texts result ≡ unhandled (value_view texts base.now) }
+    ensures read { (texts : List Bytes) → lookup_view texts result
+        ≡ unhandled (value_view texts base.now) }
     ensures made { (h : HeapView) → IsMade h base.now → IsMadeLookup h result }
 {
     match *base {

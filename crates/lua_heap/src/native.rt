@@ -6,8 +6,8 @@ ghost use Rattle.lua_heap.specs.Native.{native_view};
 
 /// A function of the library (Lua 5.1 manual §5; LÖVE wiki, `love`): one variant for each.
 ///
-/// Variants that begin with `Channel`, `Thread`, `Data` or `Object` are methods of objects. Those that
-/// end in `Walk` are what `ipairs` and `love.event.poll` give to walk with.
+/// Variants that begin with `Channel`, `Thread`, `Data` or `Object` are methods of objects. Those
+/// that end in `Walk` are what `ipairs` and `love.event.poll` give to walk with.
 #[derive(Clone, Copy, Debug, PartialEq, Eq)]
 pub enum Native {
     Assert,

@@ -48,8 +48,8 @@ impl Heap {
         }
     }
 
-    /// A table gets a value for a key; nil takes the key's value away. Only a key that the table never
-    /// had takes memory.
+    /// A table gets a value for a key; nil takes the key's value away. Only a key that the table
+    /// never had takes memory.
     ///
     /// # Errors
     ///

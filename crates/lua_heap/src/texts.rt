@@ -90,7 +90,8 @@ fn enter(
 
 // The place of a text among some places.
 fn find_later(texts: &Texts, later: &[usize], text: &[u8]) -> Option<usize>
-    requires within { (k place : ℕ) → slice_get later.now k ≡ Some place → place < length texts.now }
+    requires within { (k place : ℕ) → slice_get later.now k ≡ Some place
+        → place < length texts.now }
     ensures found { IfSome result (λ place. slice_get texts.now place ≡ Some text.now) }
     ensures absent { IsNone result → (k place : ℕ) → slice_get later.now k ≡ Some place
         → slice_get texts.now place ≡ Some text.now → ⊥ }

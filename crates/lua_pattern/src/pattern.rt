@@ -94,12 +94,12 @@ impl Pattern {
         None
     }
 
-    /// What the pattern matches first in a text from a place on: from there on, or there alone where
-    /// it is anchored. `None` exactly where it matches nowhere.
+    /// What the pattern matches first in a text from a place on: from there on, or there alone
+    /// where it is anchored. `None` exactly where it matches nowhere.
     ///
     /// A place that the pattern refuses costs time, and so does each choice in it: the time may be
-    /// exponential in the number of the pattern's items, as Lua's is. A run of a class costs no room,
-    /// and calls go no deeper than the pattern has items.
+    /// exponential in the number of the pattern's items, as Lua's is. A run of a class costs no
+    /// room, and calls go no deeper than the pattern has items.
     ///
     /// # Errors
     ///

@@ -166,12 +166,12 @@ impl Pattern {
     ghost use Rattle.lua_pattern.specs.Gsub.{Gsub};
     ghost use Rattle.lua_pattern.specs.Walk.{whole};
 
-    /// The text with a replacement string in place of its matches, at most so many from the first on,
-    /// and how many were replaced: `string.gsub` with a string (Lua 5.1 manual §5.4).
+    /// The text with a replacement string in place of its matches, at most so many from the first
+    /// on, and how many were replaced: `string.gsub` with a string (Lua 5.1 manual §5.4).
     ///
-    /// In the replacement string `%0` stands for the match, `%1` to `%9` for its captures (`%1` for the
-    /// match where it has none; a place is written as its number from 1 on), and `%` with another byte
-    /// for that byte. A caller with other replacements goes from match to match by
+    /// In the replacement string `%0` stands for the match, `%1` to `%9` for its captures (`%1` for
+    /// the match where it has none; a place is written as its number from 1 on), and `%` with
+    /// another byte for that byte. A caller with other replacements goes from match to match by
     /// [`next_match`](Pattern::next_match).
     ///
     /// # Errors

@@ -298,8 +298,8 @@ fn first_gap(bits: u64) -> u64 {
     count
 }
 
-// Fills the seven positions behind `before`, all of which are empty, in the order of this number, and
-// says whether the border was right after each.
+// Fills the seven positions behind `before`, all of which are empty, in the order of this number,
+// and says whether the border was right after each.
 fn fills_in_order(
     alloc: Global,
     table: &mut Table<Key, u32>,

@@ -26,8 +26,8 @@ impl Board {
     /// worker. It gives the place of the new entry in the history and the state's number. Both
     /// begin at 1.
     ///
-    /// Room for the state's beginning and end is kept, and the job that a worker takes is made here.
-    /// Amortised constant time, and the time of one copy of source and values.
+    /// Room for the state's beginning and end is kept, and the job that a worker takes is made
+    /// here. Amortised constant time, and the time of one copy of source and values.
     ///
     /// # Errors
     ///

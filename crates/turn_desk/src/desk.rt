@@ -45,8 +45,8 @@ impl<O: Logged> Model for Desk<O> {
         × (0 < d.table.shared.table_id.slots) };
 }
 
-// The turn word of an object; its tally word is the next one. The words of two objects share no line
-// of the cache.
+// The turn word of an object; its tally word is the next one. The words of two objects share no
+// line of the cache.
 pub(crate) fn turn_word(object: usize) -> usize
     requires { object < 2 ^ 32 }
     ensures { result ≡ 8 * object }
@@ -148,8 +148,8 @@ impl<O: Logged> Desk<O> {
         unreachable!()
     }
 
-    // Sleeps while the object's turn word has this number. A thread is counted before it looks at the
-    // word for the last time, and `release` frees the word before it looks at the count.
+    // Sleeps while the object's turn word has this number. A thread is counted before it looks at
+    // the word for the last time, and `release` frees the word before it looks at the count.
     fn sleep<R: Wait>(&self, rt: &R, object: u32, seat: u32)
         requires { object < object_count self.now }
     {

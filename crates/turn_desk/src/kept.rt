@@ -4,8 +4,8 @@ ghost use Rattle.std.specs.Prelude.{◌≡◌, ◌+◌, ◌<◌, ◌≤◌, ◌+
 
 use atomic_table::Seat;
 
-// The place of an object among those that are kept. The last is looked at first, since sections that
-// lie in one another are left in that order.
+// The place of an object among those that are kept. The last is looked at first, since sections
+// that lie in one another are left in that order.
 pub(crate) fn place_of(kept: &[u32], object: u32) -> usize
     requires { Contains kept.now object }
     ensures within { result < length kept.now }

@@ -69,7 +69,8 @@ pub(super) fn send_all<R: Wait>(
     pass
 }
 
-// Whether the events of this sender have the numbers from 1 to the count, in order, polled and then left.
+// Whether the events of this sender have the numbers from 1 to the count, in order, polled and then
+// left.
 pub(super) fn in_order(polled: &[Sent], left: &[Sent], from: u32, count: u32) -> bool {
     let mut next = 1u64;
     let mut ordered = true;

@@ -1,5 +1,5 @@
-//! The test vectors of RFC 1321 and FIPS 180-4, and of the same messages by the other digests as the
-//! system's tools give them.
+//! The test vectors of RFC 1321 and FIPS 180-4, and of the same messages by the other digests as
+//! the system's tools give them.
 
 use crate::{Format, HashKind, digest, encode};
 use std::test::Fail;

@@ -1,4 +1,5 @@
-//! A list of stamps of one of two kinds: an object that is its own history. Its summary is its length.
+//! A list of stamps of one of two kinds: an object that is its own history. Its summary is its
+//! length.
 ghost use Rattle.std.specs.Prelude.{◌≡◌, ◌==◌, ◌<◌, ◌^◌, [], length, true, if◌then◌else◌, refl};
 ghost use Rattle.love_base.specs.Prefix.{IsPrefix};
 

@@ -37,8 +37,8 @@ fn turn<R: Wait>(
     (found, left)
 }
 
-// Whether a turn found and left a history that is no shorter than a look before had shown, and no longer than one
-// after showed, and the looks' summaries are theirs.
+// Whether a turn found and left a history that is no shorter than a look before had shown, and no
+// longer than one after showed, and the looks' summaries are theirs.
 fn agree(before: Tally, turn: (u32, u32), after: Tally) -> bool {
     let (found, left) = turn;
     before.place <= found
