@@ -28,3 +28,8 @@ pub mod Taking
 pub mod Lines
 pub mod Marks
 pub mod Counted
+pub mod Descent
+pub mod Others
+pub mod Tall
+pub mod Lists
+pub mod Views

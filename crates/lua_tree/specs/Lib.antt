@@ -11,4 +11,5 @@ pub mod FaultRows
 pub mod View
 pub mod Spelled
 pub mod Answer
+pub mod Begins
 pub mod Parsed

@@ -1,7 +1,10 @@
 // Functions: their names, parameters and bodies (Lua 5.1 manual §2.5.9).
-ghost use Rattle.std.specs.Prelude.{◌≡◌, ◌+◌, ◌<◌, ◌≤◌, Some, IfOk, IfSome, length, slice_get, IsTrue, vec_len};
+ghost use Rattle.std.specs.Prelude.{◌≡◌, ◌+◌, ◌<◌, ◌≤◌, Some, IfOk, length, vec_len};
+ghost use Rattle.lua_tree.specs.Reading.{first as first_rule, func_body, program, stat as stat_rule};
 ghost use Rattle.lua_tree.specs.Spelled.{kind_at};
-ghost use Rattle.lua_tree.specs.Answer.{IsCut, Fits, Moves, Passes, Behind, line_of, declares};
+ghost use Rattle.lua_tree.specs.View.{expr_view, func_view, stat_view};
+ghost use Rattle.lua_tree.specs.Begins.{hidden_of};
+ghost use Rattle.lua_tree.specs.Answer.{Answers, Fits, IsCut, Moves, OfWords, counts, declares, expr_tall, func_tall, stat_tall};
 
 use crate::scope::Scope;
 use crate::source::{Read, Source, may_nest};
@@ -39,7 +42,10 @@ pub(crate) fn function_expression(
     requires cut { IsCut source.now }
     requires fits { Fits scope }
     requires some { at < length source.now.tokens.now }
-    ensures moves { IfOk result (Moves source.now.tokens.now at scope.depth) }
+    requires here { kind_at source.now.tokens.now at ≡ Some Kind.Function }
+    ensures moves { IfOk result (Moves source.now.tokens.now at scope.depth expr_tall) }
+    ensures answer { OfWords source.now
+        (Answers expr_view (program (first_rule (counts scope))) at result) }
 {
     may_nest(scope.depth + 2, at)?;
     let line = source.line_at(at);
@@ -64,8 +70,11 @@ pub(crate) fn function_statement(
     requires cut { IsCut source.now }
     requires fits { Fits scope }
     requires some { at < length source.now.tokens.now }
-    ensures moves { IfOk result (Moves source.now.tokens.now at scope.depth) }
+    requires here { kind_at source.now.tokens.now at ≡ Some Kind.Function }
+    ensures moves { IfOk result (Moves source.now.tokens.now at scope.depth stat_tall) }
     ensures room { IfOk result (λ read. scope.locals + declares read.node ≤ 200) }
+    ensures answer { OfWords source.now
+        (Answers stat_view (program (stat_rule (counts scope))) at result) }
 {
     may_nest(scope.depth + 1, at)?;
     let line = source.line_at(at);
@@ -89,8 +98,12 @@ pub(crate) fn local_function(source: &Source, at: usize, scope: Scope) -> Result
     requires fits { Fits scope }
     requires some { at < length source.now.tokens.now }
     requires next { at + 1 < length source.now.tokens.now }
-    ensures moves { IfOk result (Moves source.now.tokens.now at scope.depth) }
+    requires function { kind_at source.now.tokens.now (at + 1) ≡ Some Kind.Function }
+    requires here { kind_at source.now.tokens.now at ≡ Some Kind.Local }
+    ensures moves { IfOk result (Moves source.now.tokens.now at scope.depth stat_tall) }
     ensures room { IfOk result (λ read. scope.locals + declares read.node ≤ 200) }
+    ensures answer { OfWords source.now
+        (Answers stat_view (program (stat_rule (counts scope))) at result) }
 {
     may_nest(scope.depth + 1, at + 1)?;
     let name = source.local_at(at + 2, scope.locals)?;
@@ -110,7 +123,7 @@ pub(crate) fn local_function(source: &Source, at: usize, scope: Scope) -> Result
 fn function_name(source: &Source, at: usize, scope: Scope) -> Result<FunctionName, Stop>
     requires cut { IsCut source.now }
     requires fits { Fits scope }
-    ensures moves { IfOk result (λ name. Moves source.now.tokens.now at scope.depth name.target) }
+    ensures moves { IfOk result (λ name. Moves source.now.tokens.now at scope.depth expr_tall name.target) }
 {
     let mut target = name(source, at, scope)?;
     'names: while source.is(target.at, Kind::Dot) {
@@ -140,7 +153,9 @@ fn body(
     requires cut { IsCut source.now }
     requires fits { Fits scope }
     requires deep { scope.depth + 1 ≤ 200 }
-    ensures moves { IfOk result (Moves source.now.tokens.now at scope.depth) }
+    ensures moves { IfOk result (Moves source.now.tokens.now at scope.depth func_tall) }
+    ensures answer { OfWords source.now
+        (Answers func_view (program (func_body line (hidden_of method) (counts scope))) at result) }
 {
     let at = source.expect(at, Kind::OpenParen)?;
     let parameters = parameter_list(source, at, method)?;
