@@ -130,9 +130,9 @@ pub not_there : {s : Sort} {k : Key} {n : Needs} {f : Spot → Prog s} {ts : Lis
 not_there h = not_that h
 
 -- want of memory says nothing
-pub forgotten : {U : Type 0} {s : Sort} {whole : Prog s} (shown : U → Value s) (start : ℕ) (words : List Tok) (stop : Stop) (r : Result (Read U) Stop)
+pub forgotten : {U : Type 0} {s : Sort} (whole : Prog s) (shown : U → Value s) (start : ℕ) (words : List Tok) (stop : Stop) (r : Result (Read U) Stop)
     → IsErrAnd r (λ y. y ≡ stop) → stop ≡ stops.Memory → Answers shown whole start r words
-forgotten {whole = whole} shown start words stop r is e =
+forgotten whole shown start words stop r is e =
     handed r stop (λ o. Answers shown whole start o words) is (subst (λ x. Answers shown whole start (Err x) words) (sym e) tt)
 
 -- what is said of an error that is handed on
@@ -148,3 +148,14 @@ no_name_here source at depth stops.Memory h = tt
 pub too_deep_here : (source : Source) (at depth : ℕ) (stop : Stop) → kind_at source.tokens.now at ≡ Some kinds.Name → StoppedAt faults.TooDeep at (200 < depth + 1) stop → NoNameAt source at depth stop
 too_deep_here source at depth (stops.At f place) is h = subst (λ (f : declared.Fault). NoNameAt source at depth (stops.At f place)) (sym h.0) (h.1, is, omega (arith, h.2))
 too_deep_here source at depth stops.Memory is h = tt
+
+-- the token behind one
+pub next : {s : Sort} {p : Prog s} {r : Answer (Value s)} (at : ℕ) (words : List Tok) → Reads limits s p (drop (at + 1) words) r → Reads limits s p (drop (suc at) words) r
+next {s = s} {p = p} {r = r} at words d =
+    let same : at + 1 ≡ suc at = omega arith in
+    subst (λ (k : ℕ). Reads limits s p (drop k words) r) same d
+
+-- what a rule answers at these counts, which are the same
+pub at_counts : {T : Type 0} {s : Sort} (view : T → Value s) (rule : Counts → Rule s) (c d : Counts) (at : ℕ) (words : List Tok) (result : Result (Read T) Stop)
+    → c ≡ d → Answers view (program (rule c)) at result words → Answers view (program (rule d)) at result words
+at_counts view rule c d at words result e h = subst (λ (x : Counts). Answers view (program (rule x)) at result words) e h

@@ -33,3 +33,5 @@ pub mod Others
 pub mod Tall
 pub mod Lists
 pub mod Views
+pub mod KindWords
+pub mod ParsedWords

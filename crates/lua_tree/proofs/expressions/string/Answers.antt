@@ -20,7 +20,7 @@ returns-in_err-may_nest-clause-answer c words sp =
 
 pub returns-in_err-string_at-clause-answer : goal.returns-in_err-string_at-clause-answer
 returns-in_err-string_at-clause-answer c words sp =
-    forgotten expr_view c.args.at words c.in_err-string_at.field-0.0 c.from_residual-in_err-string_at.result c.from_residual-in_err-string_at.ensures.1 c.in_err-string_at.ensures.err
+    forgotten _ expr_view c.args.at words c.in_err-string_at.field-0.0 c.from_residual-in_err-string_at.result c.from_residual-in_err-string_at.ensures.1 c.in_err-string_at.ensures.err
 
 pub returns-clause-answer : goal.returns-clause-answer
 returns-clause-answer c words sp =
