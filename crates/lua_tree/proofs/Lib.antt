@@ -34,4 +34,5 @@ pub mod Tall
 pub mod Lists
 pub mod Views
 pub mod KindWords
+pub mod StatementSteps
 pub mod ParsedWords

@@ -1,5 +1,5 @@
 -- What `parse` answers.
-use Rattle.std.specs.Prelude.{◌≡◌, ◌==◌, ◌+◌, ℕ, List, length, count_by, slice_get, Option, Some, None, Result, Ok, Err, ◌⊎◌, [], ◌∷◌}
+use Rattle.std.specs.Prelude.{◌≡◌, ◌==◌, ◌+◌, ℕ, List, drop, length, count_by, slice_get, Option, Some, None, Result, Ok, Err, ◌⊎◌, [], ◌∷◌}
 use Rattle.lua_token.specs.Answer.{IsTokensAnswer}
 use Rattle.lua_token.specs.declared.token.Token.{Token}
 use Rattle.lua_token.specs.declared.fault.LexFault.{LexFault}
@@ -7,16 +7,24 @@ use Rattle.lua_token.specs.declared.fault.LexWhat.{LexWhat}
 use Rattle.lua_token.specs.declared.fault.LexWhat.TheVariants as lex
 use Rattle.lua_tree.specs.declared.fault.ParseFault.{ParseFault}
 use Rattle.lua_tree.specs.declared.fault.ParseFault.TheVariants as faults
+use Rattle.lua_tree.specs.declared.stop.Stop.{Stop}
+use Rattle.lua_tree.specs.declared.stop.Stop.TheVariants as stops
 use Rattle.lua_tree.specs.declared.stop.Fault as declared
 use Rattle.lua_tree.specs.declared.stop.Fault.TheVariants as stop
 use Rattle.lua_tree.specs.declared.tree.Chunk.{Chunk}
 use Rattle.lua_tree.specs.Tree.{Block}
 use Rattle.lua_tree.specs.Words.{Tok, tok}
-use Rattle.lua_tree.specs.Reading.{Fault, Answer, got, stuck}
+use Rattle.lua_tree.specs.Reading.{Fault, Answer, got, stuck, ReadsChunk}
 use Rattle.lua_tree.specs.Faults.{IsExact, Agree}
 use Rattle.lua_tree.specs.Spelled.{Spelled}
 use Rattle.lua_tree.specs.View.{block_view}
 use Rattle.lua_tree.specs.Answer.{limits, fault_of}
+
+-- What the words of a source are read as; of want of memory nothing is said.
+abbrev pub ChunkAnswers : Result Chunk Stop → List Tok → Type 0
+ChunkAnswers (Ok chunk) words = ReadsChunk limits words (got (block_view chunk.block) [])
+ChunkAnswers (Err (stops.At fault place)) words = ReadsChunk limits words (stuck (fault_of fault) (drop place words))
+ChunkAnswers (Err stops.Memory) words = Unit {0}
 
 -- the fault of a source that isn't cut into tokens
 abbrev pub lexical_as : LexWhat → LexFault → ParseFault

@@ -1,12 +1,12 @@
 ghost use Rattle.std.specs.Prelude.{◌≡◌, ◌≤◌, Err, List, length, slice_get};
 ghost use Rattle.lua_token.specs.Answer.{IsTokensAnswer};
 ghost use Rattle.lua_token.specs.declared.fault.LexFault.{LexFault as Lexical};
-ghost use Rattle.lua_tree.specs.Answer.{IsCut, limits};
+ghost use Rattle.lua_tree.specs.Answer.{IsCut, OfWords, limits};
 ghost use Rattle.lua_tree.specs.Faults.{IsExact};
 ghost use Rattle.lua_tree.specs.Reading.{Answer};
 ghost use Rattle.lua_tree.specs.Tree.{Block as Spelled};
 ghost use Rattle.lua_tree.specs.Words.{Tok};
-ghost use Rattle.lua_tree.specs.Parsed.{fault_at, GivesAnswer, GivesFault, IsParsed, lexical_of, place_of, WasCut, WordsOf};
+ghost use Rattle.lua_tree.specs.Parsed.{ChunkAnswers, fault_at, GivesAnswer, GivesFault, IsParsed, lexical_of, place_of, WasCut, WordsOf};
 
 use crate::scope::Scope;
 use crate::source::Source;
@@ -59,6 +59,7 @@ pub fn parse(alloc: Global, source: &[u8]) -> Result<Chunk, ParseFault>
 // chunk ::= block, up to the end of the source
 fn chunk(source: &Source) -> Result<Chunk, Stop>
     requires cut { IsCut source.now }
+    ensures { OfWords source.now (ChunkAnswers result) }
 {
     let read = block(source, 0, Scope::chunk())?;
     if read.at < source.tokens.len() {

@@ -1,0 +1,137 @@
+use Rattle.std.proofs.Common.{◌≡◌, ◌+◌, ◌<◌, ◌≤◌, ◌++◌, ◌∷◌, [], ℕ, List, Option, Some, None, Result, Ok, Err, true, false, drop, length, map, refl, sym, ap, ◌∙◌, subst, rules, arith}
+use Rattle.lua_token.specs.declared.kind.Kind.TheVariants as kinds
+use Rattle.lua_tree.specs.declared.stop.Fault.TheVariants as faults
+use Rattle.lua_tree.specs.Tree as t
+use Rattle.lua_tree.specs.Words as w
+use Rattle.lua_tree.specs.Words.{key}
+use Rattle.lua_tree.specs.Attributes as a
+use Rattle.lua_tree.specs.Reading as r
+use Rattle.lua_tree.specs.Reading.{gives, stops, thens}
+use Rattle.lua_tree.specs.Spelled.{kind_at}
+use Rattle.lua_tree.specs.View.{block_view, expr_view, exprs_view, stat_view}
+use Rattle.lua_tree.specs.Answer.{counts}
+use Rattle.lua_tree.proofs.Taking.{expect_at, just, keeps_deep, keeps_free, keeps_many, look_at, name_at, name_passed, passed_at, passes_deep, passes_many, take_at}
+use Rattle.lua_tree.proofs.Marks.{key_stands, name_stands, no_key, no_name_there, str_stands}
+use Rattle.lua_tree.proofs.Others as others
+use Rattle.lua_tree.proofs.Others.{look_as}
+use Rattle.lua_tree.proofs.Descent.{at_counts, ended, faulted, forgotten, gave, given, next, moved, not_there, onward, part_faulted, part_forgotten, part_stopped, stopped}
+use Rattle.lua_tree.proofs.Lists as lists
+use Rattle.lua_tree.proofs.KindWords as by_kind
+use Rattle.lua_tree.proofs.KindWords.{word_for}
+use Rattle.lua_tree.proofs.StatementSteps as st
+use Rattle.lua_tree.proofs.+grammar.Goals as goal
+
+-- ---- statements
+
+pub statements::do_statement-returns-in_err-may_nest-clause-answer : goal.statements::do_statement-returns-in_err-may_nest-clause-answer
+statements::do_statement-returns-in_err-may_nest-clause-answer t c words sp =
+    let h = key_stands sp c.args.at kinds.Do tt c.requires.here in
+    faulted stat_view c.args.at words faults.TooDeep c.args.at (200 < c.args.scope.depth + 1) c.in_err-may_nest.field-0.0 c.from_residual.result c.from_residual.ensures.1 c.in_err-may_nest.ensures.err
+    (λ over. look_at h.is (passed_at h.is (passes_deep _ (omega (arith, over)))))
+
+pub statements::do_statement-returns-in_err-body-clause-answer : goal.statements::do_statement-returns-in_err-body-clause-answer
+statements::do_statement-returns-in_err-body-clause-answer t c words sp =
+    let h = key_stands sp c.args.at kinds.Do tt c.requires.here in
+    let d = at_counts block_view r.block _ _ (c.args.at + 1) words (Err c.in_err-body.field-0.0) c.deeper.ensures.counts (c.in_err-body.ensures.answer words sp) in
+    stopped block_view stat_view (c.args.at + 1) c.args.at words c.in_err-body.field-0.0 c.from_residual-in_err-body.result c.from_residual-in_err-body.ensures.1
+    (λ x us e. look_at h.is (take_at h.is (keeps_deep _ (omega (arith, c.in_ok-may_nest.ensures.ok))) (next c.args.at words (stops e)))) d
+
+pub statements::do_statement-returns-in_err-at-clause-answer : goal.statements::do_statement-returns-in_err-at-clause-answer
+statements::do_statement-returns-in_err-at-clause-answer t c words sp =
+    let h = key_stands sp c.args.at kinds.Do tt c.requires.here in
+    let d = at_counts block_view r.block _ _ (c.args.at + 1) words (Ok c.in_ok-body.field-0) c.deeper.ensures.counts (c.in_ok-body.ensures.answer words sp) in
+    let end = c.in_ok-body.field-0.at in
+    faulted stat_view c.args.at words faults.Unexpected end (kind_at c.args.source.now.tokens.now end ≡ Some kinds.End → ⊥) c.in_err-at.field-0.0 c.from_residual-in_err-at.result c.from_residual-in_err-at.ensures.1 c.in_err-at.ensures.err
+    (λ none. look_at h.is (take_at h.is (keeps_deep _ (omega (arith, c.in_ok-may_nest.ensures.ok))) (next c.args.at words (thens d (not_there (no_key sp end kinds.End (key w.end_) refl none))))))
+
+pub statements::do_statement-returns-clause-answer : goal.statements::do_statement-returns-clause-answer
+statements::do_statement-returns-clause-answer t c words sp =
+    let h = key_stands sp c.args.at kinds.Do tt c.requires.here in
+    let body = c.in_ok-body.field-0 in
+    let d = at_counts block_view r.block _ _ (c.args.at + 1) words (Ok body) c.deeper.ensures.counts (c.in_ok-body.ensures.answer words sp) in
+    let e = key_stands sp body.at kinds.End tt c.in_ok-at.ensures.there in
+    look_at h.is (take_at h.is (keeps_deep _ (omega (arith, c.in_ok-may_nest.ensures.ok)))
+    (next c.args.at words (thens d (expect_at e.is keeps_free (ended body.at _ words (ap (λ l. t.do_block l (block_view body.node)) (h.line ∙ sym c.line_at.ensures) ∙ sym (st.view_do _ _)) (sym c.in_ok-at.ensures.next))))))
+
+pub statements::do_statement-returns-clause-moves : goal.statements::do_statement-returns-clause-moves
+statements::do_statement-returns-clause-moves t c = record {
+  forth = search rules;
+  within = search rules;
+  high = st.high_do _ _ _ c.in_ok-body.ensures.moves.high;
+  low = search rules;
+}
+
+pub statements::last_statement-return_statement-requires-clause-here : goal.statements::last_statement-return_statement-requires-clause-here
+statements::last_statement-return_statement-requires-clause-here t c =
+    by_kind.is_return _ c.requires.here (λ e. ?)
+
+pub statements::return_statement-returns-then-ends_return-clause-answer : goal.statements::return_statement-returns-then-ends_return-clause-answer
+statements::return_statement-returns-then-ends_return-clause-answer t c words sp =
+    let h = key_stands sp c.args.at kinds.Return tt c.requires.here in
+    look_at h.is (take_at h.is keeps_free (next c.args.at words (just
+    (look_as (by_kind.return_ends _ _ _ _ _ (word_for sp (c.args.at + 1)) (sym c.ends_return.ensures ∙ c.if-ends_return.true)) (gave (ap (λ l. t.return_stat l t.no_exprs) (h.line ∙ sym c.line_at.ensures) ∙ sym (st.view_return _ _)))))))
+
+pub statements::return_statement-returns-in_err-values-clause-answer : goal.statements::return_statement-returns-in_err-values-clause-answer
+statements::return_statement-returns-in_err-values-clause-answer t c words sp =
+    let h = key_stands sp c.args.at kinds.Return tt c.requires.here in
+    stopped exprs_view stat_view (c.args.at + 1) c.args.at words c.in_err-values.field-0.0 c.from_residual.result c.from_residual.ensures.1
+    (λ x us e. look_at h.is (take_at h.is keeps_free (next c.args.at words (just
+    (look_as (by_kind.return_goes _ _ _ _ _ (word_for sp (c.args.at + 1)) (sym c.ends_return.ensures ∙ c.if-ends_return.false)) (stops e)))))) (c.in_err-values.ensures.answer words sp)
+
+pub statements::return_statement-returns-clause-answer : goal.statements::return_statement-returns-clause-answer
+statements::return_statement-returns-clause-answer t c words sp =
+    let h = key_stands sp c.args.at kinds.Return tt c.requires.here in
+    look_at h.is (take_at h.is keeps_free (next c.args.at words (just
+    (look_as (by_kind.return_goes _ _ _ _ _ (word_for sp (c.args.at + 1)) (sym c.ends_return.ensures ∙ c.if-ends_return.false))
+    (thens (c.in_ok-values.ensures.answer words sp) (gave (ap (λ l. t.return_stat l _) (h.line ∙ sym c.line_at.ensures) ∙ sym (st.view_return _ _))))))))
+
+-- ---- conditions
+
+pub conditions::arm-returns-in_err-test-clause-answer : goal.conditions::arm-returns-in_err-test-clause-answer
+conditions::arm-returns-in_err-test-clause-answer t c words sp =
+    part_stopped expr_view _ _ c.args.at c.args.at words c.in_err-test.field-0.0 c.from_residual.result c.from_residual.ensures.1
+    (λ x us e. stops e) (c.in_err-test.ensures.answer words sp)
+
+pub conditions::arm-returns-in_err-at-clause-answer : goal.conditions::arm-returns-in_err-at-clause-answer
+conditions::arm-returns-in_err-at-clause-answer t c words sp =
+    let end = c.in_ok-test.field-0.at in
+    part_faulted _ _ c.args.at words faults.Unexpected end (kind_at c.args.source.now.tokens.now end ≡ Some kinds.Then → ⊥) c.in_err-at.field-0.0 c.from_residual-in_err-at.result c.from_residual-in_err-at.ensures.1 c.in_err-at.ensures.err
+    (λ none. thens (c.in_ok-test.ensures.answer words sp) (not_there (no_key sp end kinds.Then (key w.then_) refl none)))
+
+pub conditions::arm-returns-in_err-body-clause-answer : goal.conditions::arm-returns-in_err-body-clause-answer
+conditions::arm-returns-in_err-body-clause-answer t c words sp =
+    let end = c.in_ok-test.field-0.at in
+    let h = key_stands sp end kinds.Then tt c.in_ok-at.ensures.there in
+    let d = at_counts block_view r.block _ _ c.in_ok-at.field-0 words (Err c.in_err-body.field-0.0) c.deeper.ensures.counts (c.in_err-body.ensures.answer words sp) in
+    part_stopped block_view _ _ c.in_ok-at.field-0 c.args.at words c.in_err-body.field-0.0 c.from_residual-in_err-body.result c.from_residual-in_err-body.ensures.1
+    (λ x us e. thens (c.in_ok-test.ensures.answer words sp) (expect_at h.is keeps_free (moved end _ words c.in_ok-at.ensures.next (stops e)))) d
+
+pub conditions::arm-returns-clause-answer : goal.conditions::arm-returns-clause-answer
+conditions::arm-returns-clause-answer t c words sp o more =
+    let end = c.in_ok-test.field-0.at in
+    let body = c.in_ok-body.field-0 in
+    let h = key_stands sp end kinds.Then tt c.in_ok-at.ensures.there in
+    let d = at_counts block_view r.block _ _ c.in_ok-at.field-0 words (Ok body) c.deeper.ensures.counts (c.in_ok-body.ensures.answer words sp) in
+    st.as_arm c.in_ok-test.field-0.node body.node o
+    (thens (c.in_ok-test.ensures.answer words sp) (expect_at h.is keeps_free (moved end _ words c.in_ok-at.ensures.next (thens d (given o more)))))
+
+pub conditions::arm-returns-clause-moves : goal.conditions::arm-returns-clause-moves
+conditions::arm-returns-clause-moves t c = record {
+  forth = search rules;
+  within = search rules;
+  high = st.high_arm _ _ _ _ c.in_ok-test.ensures.moves.high c.in_ok-body.ensures.moves.high;
+  low = search rules;
+}
+
+pub conditions::else_part-returns-in_err-expect-clause-answer : goal.conditions::else_part-returns-in_err-expect-clause-answer
+conditions::else_part-returns-in_err-expect-clause-answer t c words sp =
+    faulted _ c.args.at words faults.Unexpected c.args.at (kind_at c.args.source.now.tokens.now c.args.at ≡ Some kinds.End → ⊥) c.in_err-expect.field-0.0 c.from_residual.result c.from_residual.ensures.1 c.in_err-expect.ensures.err
+    (λ none. look_as (others.more_arms_other _ _ _
+    (no_key sp c.args.at kinds.ElseIf (key w.elseif) refl c.requires.here)
+    (no_key sp c.args.at kinds.Else (key w.else_) refl (λ e. ?))
+    (no_key sp c.args.at kinds.End (key w.end_) refl none)) r.fails)
+
+pub conditions::else_part-returns-then-not-is-clause-answer : goal.conditions::else_part-returns-then-not-is-clause-answer
+conditions::else_part-returns-then-not-is-clause-answer t c words sp =
+    let h = key_stands sp c.args.at kinds.End tt c.in_ok-expect.ensures.there in
+    look_at h.is (take_at h.is keeps_free (ended c.args.at _ words refl (sym c.in_ok-expect.ensures.next)))
