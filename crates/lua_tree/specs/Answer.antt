@@ -214,7 +214,7 @@ MemberAt source base e = (u : Token) × (slice_get source.tokens.now (base.at + 
 -- why there is no such index: it is too deep, or no name stands there
 abbrev pub NoMemberAt : Source → Read Expr → ℕ → Stop → Type 0
 NoMemberAt source base depth (stops.At faults.TooDeep place) = (place ≡ base.at) × (200 < depth + 1 + base.height)
-NoMemberAt source base depth (stops.At faults.Unexpected place) = (place ≡ base.at + 1) × (kind_at source.tokens.now (base.at + 1) ≡ Some kinds.Name → ⊥)
+NoMemberAt source base depth (stops.At faults.Unexpected place) = (place ≡ base.at + 1) × (kind_at source.tokens.now (base.at + 1) ≡ Some kinds.Name → ⊥) × (depth + 1 + base.height ≤ 200)
 NoMemberAt source base depth (stops.At fault place) = ⊥
 NoMemberAt source base depth stops.Memory = Unit {0}
 
