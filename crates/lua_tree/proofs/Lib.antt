@@ -36,3 +36,6 @@ pub mod Views
 pub mod KindWords
 pub mod StatementSteps
 pub mod ParsedWords
+pub mod SuffixSteps
+pub mod TargetSteps
+pub mod LoopSteps

@@ -1,9 +1,10 @@
 // `while`, `repeat` and `for` (Lua 5.1 manual §2.4.4, §2.4.5).
-ghost use Rattle.std.specs.Prelude.{◌≡◌, ◌+◌, ◌<◌, ◌≤◌, Some, IfOk, length};
-ghost use Rattle.lua_tree.specs.Reading.{for_rest, loop_block, program, stat as stat_rule};
+ghost use Rattle.std.specs.Prelude.{◌≡◌, ◌+◌, ◌<◌, ◌≤◌, ℕ, Some, IfOk, length, option_map};
+ghost use Rattle.lua_tree.specs.Tree.{Bytes, Expr as Operand};
+ghost use Rattle.lua_tree.specs.Reading.{for_rest, loop_block, num_for_rest, program, stat as stat_rule};
 ghost use Rattle.lua_tree.specs.Spelled.{kind_at};
-ghost use Rattle.lua_tree.specs.View.{block_view, stat_view};
-ghost use Rattle.lua_tree.specs.Answer.{Answers, Fits, IsCut, Moves, OfWords, Passes, block_tall, counts, declares, stat_tall, step_tall};
+ghost use Rattle.lua_tree.specs.View.{block_view, expr_view, num_for_of, stat_view};
+ghost use Rattle.lua_tree.specs.Answer.{Answers, Fits, IsCut, Moves, OfWords, Parts, Passes, block_tall, counts, declares, stat_tall, step_tall};
 
 use crate::assignments::more_names;
 use crate::expressions::{expression, expressions};
@@ -153,6 +154,10 @@ fn step(source: &Source, at: usize, scope: Scope) -> Result<Read<Option<Expr>>, 
     requires fits { Fits scope }
     requires within { at ≤ length source.now.tokens.now }
     ensures moves { IfOk result (Passes source.now.tokens.now at scope.depth step_tall) }
+    ensures answer { (line : ℕ) (x : Bytes) (a b : Operand) → OfWords source.now
+        (Parts (λ o. program (loop_block 1 (counts scope)))
+            (λ o body. num_for_of x a b (option_map expr_view o) body line)
+            (program (num_for_rest line x a b (counts scope))) at result) }
 {
     if !source.is(at, Kind::Comma) {
         return Ok(Read {

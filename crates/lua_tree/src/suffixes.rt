@@ -1,6 +1,6 @@
 // Prefix expressions: names and parentheses, and the indices and calls behind them (Lua 5.1 manual
 // §2.3, §2.5.8).
-ghost use Rattle.std.specs.Prelude.{◌≡◌, ◌+◌, ◌<◌, ◌≤◌, ℕ, Some, IfOk, IfErr, IsTrue, length, true, false};
+ghost use Rattle.std.specs.Prelude.{◌≡◌, ◌+◌, ◌<◌, ◌≤◌, ◌∷◌, [], ℕ, Some, IfOk, IfErr, IsTrue, length, true, false};
 ghost use Rattle.lua_tree.specs.Attributes.{Counts};
 ghost use Rattle.lua_tree.specs.Reading.{Place, a_call, a_paren, args, held, prefix, program, suffixes as suffixes_rule, unfinished};
 ghost use Rattle.lua_tree.specs.Spelled.{kind_at};
@@ -414,7 +414,10 @@ fn only_string(source: &Source, at: usize) -> Result<Read<List<Expr>>, Stop>
 }
 
 // The list of one expression.
-fn only(source: &Source, item: Expr) -> Result<List<Expr>, Stop> {
+fn only(source: &Source, item: Expr) -> Result<List<Expr>, Stop>
+    ensures ok { IfOk result (λ items. items ≡ item ∷ []) }
+    ensures err { IfErr result (λ stop. stop ≡ Stop.Memory) }
+{
     let mut items = Vec::new(source.alloc);
     items.push(item)?;
     Ok(List::from_vec(items))
