@@ -167,10 +167,10 @@ moved {s = s} {p = p} {r = r} at later words e d =
     subst (λ (k : ℕ). Reads limits s p (drop k words) r) same d
 
 -- why a part of a rule stopped is said as of a whole one
-as_part_stopped : {T U : Type 0} {s q : Sort} {whole : Prog s} (shown : U → Value s) (after : T → Prog q) (put : T → Value q → Value s) (start : ℕ) (words : List Tok) (stop : Stop)
+as_part_stopped : {T U : Type 0} {s q : Sort} (whole : Prog s) (shown : U → Value s) (after : T → Prog q) (put : T → Value q → Value s) (start : ℕ) (words : List Tok) (stop : Stop)
     → Answers shown whole start (Err stop) words → Parts after put whole start (Err stop) words
-as_part_stopped shown after put start words (stops.At f place) d = d
-as_part_stopped shown after put start words stops.Memory d = tt
+as_part_stopped whole shown after put start words (stops.At f place) d = d
+as_part_stopped whole shown after put start words stops.Memory d = tt
 
 -- `stopped`, `faulted` and `forgotten` for a part of a rule
 pub part_stopped : {T U : Type 0} {s q m : Sort} {p : Prog m} {whole : Prog s} (view : T → Value m) (after : U → Prog q) (put : U → Value q → Value s) (at start : ℕ) (words : List Tok) (stop : Stop) (r : Result (Read U) Stop)
@@ -179,14 +179,14 @@ pub part_stopped : {T U : Type 0} {s q m : Sort} {p : Prog m} {whole : Prog s} (
     → Answers view p at (Err stop) words → Parts after put whole start r words
 part_stopped {U = U} {s = s} {q = q} {whole = whole} view after put at start words stop r is k d =
     handed r stop (λ o. Parts after put whole start o words) is
-    (as_part_stopped (λ (u : Value s). u) after put start words stop (why_stopped view (λ (u : Value s). u) at start words stop k d))
+    (as_part_stopped whole (λ (u : Value s). u) after put start words stop (why_stopped view (λ (u : Value s). u) at start words stop k d))
 
 pub part_faulted : {U : Type 0} {s q : Sort} {whole : Prog s} (after : U → Prog q) (put : U → Value q → Value s) (start : ℕ) (words : List Tok) (fault : declared.Fault) (at : ℕ) (P : Type 0) (stop : Stop) (r : Result (Read U) Stop)
     → IsErrAnd r (λ y. y ≡ stop) → StoppedAt fault at P stop
     → (P → Reads limits s whole (drop start words) (stuck (fault_of fault) (drop at words))) → Parts after put whole start r words
 part_faulted {s = s} {whole = whole} after put start words fault at P stop r is h k =
     handed r stop (λ o. Parts after put whole start o words) is
-    (as_part_stopped (λ (u : Value s). u) after put start words stop (why_faulted (λ (u : Value s). u) start words fault at P stop h k))
+    (as_part_stopped whole (λ (u : Value s). u) after put start words stop (why_faulted (λ (u : Value s). u) start words fault at P stop h k))
 
 pub part_forgotten : {U : Type 0} {s q : Sort} (whole : Prog s) (after : U → Prog q) (put : U → Value q → Value s) (start : ℕ) (words : List Tok) (stop : Stop) (r : Result (Read U) Stop)
     → IsErrAnd r (λ y. y ≡ stop) → stop ≡ stops.Memory → Parts after put whole start r words
