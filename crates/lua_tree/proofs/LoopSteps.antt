@@ -2,6 +2,7 @@
 use Rattle.std.proofs.Common.{◌≡◌, ℕ, suc, ◌+◌, ◌<◌, ◌≤◌, max, List, [], ◌∷◌, Option, Some, None, Ok, Err, option_map, drop, length, refl, sym, ap, ◌∙◌, subst, rules, arith}
 use Rattle.std.specs.Prelude.{slice_get}
 use Rattle.lua_token.specs.declared.kind.Kind.TheVariants as kinds
+use Rattle.lua_token.specs.declared.token.Token.{Token}
 use Rattle.lua_tree.specs.declared.source.Source.{Source}
 use Rattle.lua_tree.specs.declared.tree.Block.{Block}
 use Rattle.lua_tree.specs.declared.tree.Expr.{Expr}
@@ -14,13 +15,13 @@ use Rattle.lua_tree.specs.Tree.{Bytes}
 use Rattle.lua_tree.specs.Words as w
 use Rattle.lua_tree.specs.Words.{Word, Key, key, Spot, Tok, tok, word_of, spot_of}
 use Rattle.lua_tree.specs.Attributes.{locals, nodes, Counts, height, most_block, most_exprs, most_stat}
-use Rattle.lua_tree.specs.Reading.{Sort, Value, Rule, Prog, give, take, look, expect, expect_name, then, Fault, Needs, free, deep, many, Answer, got, stuck, unexpected, over, Reads, gives, program, an_expr, a_block, a_stat, stat as stat_rule, expr, exprs, block, in_loop, loop_block, for_rest, num_for_rest, more_names}
+use Rattle.lua_tree.specs.Reading.{Sort, Value, Rule, Prog, give, take, look, expect, expect_name, then, Fault, Needs, free, deep, many, Answer, got, stuck, unexpected, over, Reads, gives, program, an_expr, a_block, a_stat, stat as stat_rule, expr, exprs, block, in_loop, loop_block, for_rest, for_rest_of, num_for_rest, num_for_rest_of, more_names}
 use Rattle.lua_tree.specs.Spelled.{Spelled, kind_at}
 use Rattle.lua_tree.specs.View.{block_view, expr_view, exprs_view, num_for_of, stat_view}
 use Rattle.lua_tree.specs.Answer.{limits, as_part, block_tall, counts, expr_tall, exprs_tall, line_of, NamedAt, stat_tall, step_tall}
 use Rattle.lua_tree.proofs.Taking.{just, keeps_free, keeps_deep, keeps_many, passes_deep, look_at, take_at, passed_at, expect_at, name_at}
 use Rattle.lua_tree.proofs.Marks.{key_stands, name_stands, no_key}
-use Rattle.lua_tree.proofs.Others.{look_as, for_rest_other, num_for_rest_other}
+use Rattle.lua_tree.proofs.Others.{look_as}
 use Rattle.lua_tree.proofs.Tall.{tall_gen_for, tall_num_for, tall_num_for_by, tall_repeat, tall_while}
 use Rattle.lua_tree.proofs.Descent.{given, gave, next, moved}
 
@@ -59,67 +60,67 @@ tall_at_gen_for l xs es b = ap (most_stat nodes 0) (view_gen_for l xs es b) ∙ 
 
 -- ---- `while`
 
-pub while_deep : {source : Source} {words : List Tok} (sp : Spelled source.bytes.now 1 source.tokens.now words) (c : Counts) (at : ℕ) → kind_at source.tokens.now at ≡ Some kinds.While
+pub while_deep : {bytes : List ℕ} {ts : List Token} {words : List Tok} (sp : Spelled bytes 1 ts words) (c : Counts) (at : ℕ) → kind_at ts at ≡ Some kinds.While
     → 200 < suc (c nodes) → Reads limits a_stat (program (stat_rule c)) (drop at words) (stuck (over nodes) (drop at words))
 while_deep sp c at is high = let h = key_stands sp at kinds.While tt is in look_at h.is (passed_at h.is (passes_deep _ high))
 
-pub while_opens : {source : Source} {words : List Tok} (sp : Spelled source.bytes.now 1 source.tokens.now words) (c : Counts) (at : ℕ) (r : Answer t.Stat) → kind_at source.tokens.now at ≡ Some kinds.While → suc (c nodes) ≤ 200
-    → Reads limits a_stat (then (expr 0 c) (λ e. then (loop_block 0 c) (λ b. give (t.while_loop (line_of (slice_get source.tokens.now at)) e b)))) (drop (at + 1) words) r
+pub while_opens : {bytes : List ℕ} {ts : List Token} {words : List Tok} (sp : Spelled bytes 1 ts words) (c : Counts) (at : ℕ) (r : Answer t.Stat) → kind_at ts at ≡ Some kinds.While → suc (c nodes) ≤ 200
+    → Reads limits a_stat (then (expr 0 c) (λ e. then (loop_block 0 c) (λ b. give (t.while_loop (line_of (slice_get ts at)) e b)))) (drop (at + 1) words) r
     → Reads limits a_stat (program (stat_rule c)) (drop at words) r
-while_opens {source = source} {words = words} sp c at r is low d =
+while_opens {bytes = bytes} {ts = ts} {words = words} sp c at r is low d =
     let h = key_stands sp at kinds.While tt is in
     look_at h.is (take_at h.is (keeps_deep _ low)
     (next at words (subst (λ (l : ℕ). Reads limits a_stat (then (expr 0 c) (λ e. then (loop_block 0 c) (λ b. give (t.while_loop l e b)))) (drop (at + 1) words) r) (sym h.line) d)))
 
 -- ---- `repeat`
 
-pub repeat_deep : {source : Source} {words : List Tok} (sp : Spelled source.bytes.now 1 source.tokens.now words) (c : Counts) (at : ℕ) → kind_at source.tokens.now at ≡ Some kinds.Repeat
+pub repeat_deep : {bytes : List ℕ} {ts : List Token} {words : List Tok} (sp : Spelled bytes 1 ts words) (c : Counts) (at : ℕ) → kind_at ts at ≡ Some kinds.Repeat
     → 200 < suc (c nodes) → Reads limits a_stat (program (stat_rule c)) (drop at words) (stuck (over nodes) (drop at words))
 repeat_deep sp c at is high = let h = key_stands sp at kinds.Repeat tt is in look_at h.is (passed_at h.is (passes_deep _ high))
 
-pub repeat_opens : {source : Source} {words : List Tok} (sp : Spelled source.bytes.now 1 source.tokens.now words) (c : Counts) (at : ℕ) (r : Answer t.Stat) → kind_at source.tokens.now at ≡ Some kinds.Repeat → suc (c nodes) ≤ 200
-    → Reads limits a_stat (then (block (in_loop 0 c)) (λ b. expect w.until free (λ s'. then (expr 0 c) (λ e. give (t.repeat_loop (line_of (slice_get source.tokens.now at)) b e))))) (drop (at + 1) words) r
+pub repeat_opens : {bytes : List ℕ} {ts : List Token} {words : List Tok} (sp : Spelled bytes 1 ts words) (c : Counts) (at : ℕ) (r : Answer t.Stat) → kind_at ts at ≡ Some kinds.Repeat → suc (c nodes) ≤ 200
+    → Reads limits a_stat (then (block (in_loop 0 c)) (λ b. expect w.until free (λ s'. then (expr 0 c) (λ e. give (t.repeat_loop (line_of (slice_get ts at)) b e))))) (drop (at + 1) words) r
     → Reads limits a_stat (program (stat_rule c)) (drop at words) r
-repeat_opens {source = source} {words = words} sp c at r is low d =
+repeat_opens {bytes = bytes} {ts = ts} {words = words} sp c at r is low d =
     let h = key_stands sp at kinds.Repeat tt is in
     look_at h.is (take_at h.is (keeps_deep _ low)
     (next at words (subst (λ (l : ℕ). Reads limits a_stat (then (block (in_loop 0 c)) (λ b. expect w.until free (λ s'. then (expr 0 c) (λ e. give (t.repeat_loop l b e))))) (drop (at + 1) words) r) (sym h.line) d)))
 
 -- a keyword or a symbol that is looked for, and what is behind it
-pub expected : {source : Source} {words : List Tok} (sp : Spelled source.bytes.now 1 source.tokens.now words) {s : Sort} {p : Prog s} (at later : ℕ) (r : Answer (Value s)) → kind_at source.tokens.now at ≡ Some kinds.Until → later ≡ at + 1
+pub expected : {bytes : List ℕ} {ts : List Token} {words : List Tok} (sp : Spelled bytes 1 ts words) {s : Sort} {p : Prog s} (at later : ℕ) (r : Answer (Value s)) → kind_at ts at ≡ Some kinds.Until → later ≡ at + 1
     → Reads limits s p (drop later words) r → Reads limits s (expect w.until free (λ s'. p)) (drop at words) r
 expected {words = words} sp at later r is behind d = let h = key_stands sp at kinds.Until tt is in expect_at h.is keeps_free (moved at later words behind d)
 
-pub expected_comma : {source : Source} {words : List Tok} (sp : Spelled source.bytes.now 1 source.tokens.now words) {s : Sort} {p : Prog s} (at later : ℕ) (r : Answer (Value s)) → kind_at source.tokens.now at ≡ Some kinds.Comma → later ≡ at + 1
+pub expected_comma : {bytes : List ℕ} {ts : List Token} {words : List Tok} (sp : Spelled bytes 1 ts words) {s : Sort} {p : Prog s} (at later : ℕ) (r : Answer (Value s)) → kind_at ts at ≡ Some kinds.Comma → later ≡ at + 1
     → Reads limits s p (drop later words) r → Reads limits s (expect w.comma free (λ s'. p)) (drop at words) r
 expected_comma {words = words} sp at later r is behind d = let h = key_stands sp at kinds.Comma tt is in expect_at h.is keeps_free (moved at later words behind d)
 
-pub expected_in : {source : Source} {words : List Tok} (sp : Spelled source.bytes.now 1 source.tokens.now words) {s : Sort} {p : Prog s} (at later : ℕ) (r : Answer (Value s)) → kind_at source.tokens.now at ≡ Some kinds.In → later ≡ at + 1
+pub expected_in : {bytes : List ℕ} {ts : List Token} {words : List Tok} (sp : Spelled bytes 1 ts words) {s : Sort} {p : Prog s} (at later : ℕ) (r : Answer (Value s)) → kind_at ts at ≡ Some kinds.In → later ≡ at + 1
     → Reads limits s p (drop later words) r → Reads limits s (expect w.in_ free (λ s'. p)) (drop at words) r
 expected_in {words = words} sp at later r is behind d = let h = key_stands sp at kinds.In tt is in expect_at h.is keeps_free (moved at later words behind d)
 
-pub expected_do : {source : Source} {words : List Tok} (sp : Spelled source.bytes.now 1 source.tokens.now words) {s : Sort} {p : Prog s} (at later : ℕ) (r : Answer (Value s)) → kind_at source.tokens.now at ≡ Some kinds.Do → later ≡ at + 1
+pub expected_do : {bytes : List ℕ} {ts : List Token} {words : List Tok} (sp : Spelled bytes 1 ts words) {s : Sort} {p : Prog s} (at later : ℕ) (r : Answer (Value s)) → kind_at ts at ≡ Some kinds.Do → later ≡ at + 1
     → Reads limits s p (drop later words) r → Reads limits s (expect w.do_ free (λ s'. p)) (drop at words) r
 expected_do {words = words} sp at later r is behind d = let h = key_stands sp at kinds.Do tt is in expect_at h.is keeps_free (moved at later words behind d)
 
-pub expected_end : {source : Source} {words : List Tok} (sp : Spelled source.bytes.now 1 source.tokens.now words) {s : Sort} {p : Prog s} (at later : ℕ) (r : Answer (Value s)) → kind_at source.tokens.now at ≡ Some kinds.End → later ≡ at + 1
+pub expected_end : {bytes : List ℕ} {ts : List Token} {words : List Tok} (sp : Spelled bytes 1 ts words) {s : Sort} {p : Prog s} (at later : ℕ) (r : Answer (Value s)) → kind_at ts at ≡ Some kinds.End → later ≡ at + 1
     → Reads limits s p (drop later words) r → Reads limits s (expect w.end_ free (λ s'. p)) (drop at words) r
 expected_end {words = words} sp at later r is behind d = let h = key_stands sp at kinds.End tt is in expect_at h.is keeps_free (moved at later words behind d)
 
-pub expected_assign : {source : Source} {words : List Tok} (sp : Spelled source.bytes.now 1 source.tokens.now words) {s : Sort} {p : Prog s} (at later : ℕ) (r : Answer (Value s)) → kind_at source.tokens.now at ≡ Some kinds.Assign → later ≡ at + 1
+pub expected_assign : {bytes : List ℕ} {ts : List Token} {words : List Tok} (sp : Spelled bytes 1 ts words) {s : Sort} {p : Prog s} (at later : ℕ) (r : Answer (Value s)) → kind_at ts at ≡ Some kinds.Assign → later ≡ at + 1
     → Reads limits s p (drop later words) r → Reads limits s (expect w.assign free (λ s'. p)) (drop at words) r
 expected_assign {words = words} sp at later r is behind d = let h = key_stands sp at kinds.Assign tt is in expect_at h.is keeps_free (moved at later words behind d)
 
 -- ---- `for`
 
-pub for_deep : {source : Source} {words : List Tok} (sp : Spelled source.bytes.now 1 source.tokens.now words) (c : Counts) (at : ℕ) → kind_at source.tokens.now at ≡ Some kinds.For
+pub for_deep : {bytes : List ℕ} {ts : List Token} {words : List Tok} (sp : Spelled bytes 1 ts words) (c : Counts) (at : ℕ) → kind_at ts at ≡ Some kinds.For
     → 200 < suc (c nodes) → Reads limits a_stat (program (stat_rule c)) (drop at words) (stuck (over nodes) (drop at words))
 for_deep sp c at is high = let h = key_stands sp at kinds.For tt is in look_at h.is (passed_at h.is (passes_deep _ high))
 
-pub for_opens : {source : Source} {words : List Tok} (sp : Spelled source.bytes.now 1 source.tokens.now words) (c : Counts) (at : ℕ) (r : Answer t.Stat) → kind_at source.tokens.now at ≡ Some kinds.For → suc (c nodes) ≤ 200
-    → Reads limits a_stat (expect_name (many (suc (c locals))) (λ x s'. then (for_rest (line_of (slice_get source.tokens.now at)) x c) give)) (drop (at + 1) words) r
+pub for_opens : {bytes : List ℕ} {ts : List Token} {words : List Tok} (sp : Spelled bytes 1 ts words) (c : Counts) (at : ℕ) (r : Answer t.Stat) → kind_at ts at ≡ Some kinds.For → suc (c nodes) ≤ 200
+    → Reads limits a_stat (expect_name (many (suc (c locals))) (λ x s'. then (for_rest (line_of (slice_get ts at)) x c) give)) (drop (at + 1) words) r
     → Reads limits a_stat (program (stat_rule c)) (drop at words) r
-for_opens {source = source} {words = words} sp c at r is low d =
+for_opens {bytes = bytes} {ts = ts} {words = words} sp c at r is low d =
     let h = key_stands sp at kinds.For tt is in
     look_at h.is (take_at h.is (keeps_deep _ low)
     (next at words (subst (λ (l : ℕ). Reads limits a_stat (expect_name (many (suc (c locals))) (λ x s'. then (for_rest l x c) give)) (drop (at + 1) words) r) (sym h.line) d)))
@@ -132,25 +133,35 @@ local_named source {words = words} sp f at later n x r named few behind d =
     let room : suc n ≤ 200 = omega (arith, few) in
     name_at h.is (keeps_many (suc n) room) (moved at later words behind d)
 
+for_rest_other : (l : ℕ) (x : Bytes) (c : Counts) (v : Word) (s : Spot) → (v ≡ key w.assign → ⊥)
+    → for_rest_of l x c v s ≡ then (more_names (suc (c locals))) (λ xs. expect w.in_ free (λ s'. then (exprs c) (λ es. then (loop_block (length (x ∷ xs)) c) (λ b. give (t.gen_for l (x ∷ xs) es b)))))
+for_rest_other l x c (key w.assign) s h = absurd (h refl)
+for_rest_other l x c v s h = refl
+
+num_for_rest_other : (l : ℕ) (x : Bytes) (a b : t.Expr) (c : Counts) (v : Word) (s : Spot) → (v ≡ key w.comma → ⊥)
+    → num_for_rest_of l x a b c v s ≡ then (loop_block 1 c) (λ d. give (t.num_for l x a b d))
+num_for_rest_other l x a b c (key w.comma) s h = absurd (h refl)
+num_for_rest_other l x a b c v s h = refl
+
 -- '=' behind its name
-pub numeric_opens : {source : Source} {words : List Tok} (sp : Spelled source.bytes.now 1 source.tokens.now words) (l : ℕ) (x : Bytes) (c : Counts) (at : ℕ) (r : Answer t.Stat) → kind_at source.tokens.now at ≡ Some kinds.Assign
+pub numeric_opens : {bytes : List ℕ} {ts : List Token} {words : List Tok} (sp : Spelled bytes 1 ts words) (l : ℕ) (x : Bytes) (c : Counts) (at : ℕ) (r : Answer t.Stat) → kind_at ts at ≡ Some kinds.Assign
     → Reads limits a_stat (then (expr 0 c) (λ a. expect w.comma free (λ s'. then (expr 0 c) (λ b. then (num_for_rest l x a b c) give)))) (drop (at + 1) words) r
     → Reads limits a_stat (program (for_rest l x c)) (drop at words) r
 numeric_opens {words = words} sp l x c at r is d =
     let h = key_stands sp at kinds.Assign tt is in look_at h.is (take_at h.is keeps_free (next at words d))
 
-pub generic_opens : {source : Source} {words : List Tok} (sp : Spelled source.bytes.now 1 source.tokens.now words) (l : ℕ) (x : Bytes) (c : Counts) (at : ℕ) (r : Answer t.Stat) → (kind_at source.tokens.now at ≡ Some kinds.Assign → ⊥)
+pub generic_opens : {bytes : List ℕ} {ts : List Token} {words : List Tok} (sp : Spelled bytes 1 ts words) (l : ℕ) (x : Bytes) (c : Counts) (at : ℕ) (r : Answer t.Stat) → (kind_at ts at ≡ Some kinds.Assign → ⊥)
     → Reads limits a_stat (then (more_names (suc (c locals))) (λ xs. expect w.in_ free (λ s'. then (exprs c) (λ es. then (loop_block (length (x ∷ xs)) c) (λ b. give (t.gen_for l (x ∷ xs) es b)))))) (drop at words) r
     → Reads limits a_stat (program (for_rest l x c)) (drop at words) r
 generic_opens sp l x c at r none d = look_as (for_rest_other l x c _ _ (no_key sp at kinds.Assign (key w.assign) refl none)) d
 
 -- the step, if there is one
-pub no_step : {source : Source} {words : List Tok} (sp : Spelled source.bytes.now 1 source.tokens.now words) (l : ℕ) (x : Bytes) (a b : t.Expr) (c : Counts) (at : ℕ) (r : Answer t.Block) → (kind_at source.tokens.now at ≡ Some kinds.Comma → ⊥)
+pub no_step : {bytes : List ℕ} {ts : List Token} {words : List Tok} (sp : Spelled bytes 1 ts words) (l : ℕ) (x : Bytes) (a b : t.Expr) (c : Counts) (at : ℕ) (r : Answer t.Block) → (kind_at ts at ≡ Some kinds.Comma → ⊥)
     → Reads limits a_block (program (loop_block 1 c)) (drop at words) r
     → Reads limits a_stat (program (num_for_rest l x a b c)) (drop at words) (as_part (λ body. t.num_for l x a b body) r)
 no_step sp l x a b c at r none d = look_as (num_for_rest_other l x a b c _ _ (no_key sp at kinds.Comma (key w.comma) refl none)) (given {f = λ body. t.num_for l x a b body} r d)
 
-pub one_step : {source : Source} {words : List Tok} (sp : Spelled source.bytes.now 1 source.tokens.now words) (l : ℕ) (x : Bytes) (a b : t.Expr) (c : Counts) (at : ℕ) (r : Answer t.Stat) → kind_at source.tokens.now at ≡ Some kinds.Comma
+pub one_step : {bytes : List ℕ} {ts : List Token} {words : List Tok} (sp : Spelled bytes 1 ts words) (l : ℕ) (x : Bytes) (a b : t.Expr) (c : Counts) (at : ℕ) (r : Answer t.Stat) → kind_at ts at ≡ Some kinds.Comma
     → Reads limits a_stat (then (expr 0 c) (λ e. then (loop_block 1 c) (λ d. give (t.num_for_by l x a b e d)))) (drop (at + 1) words) r
     → Reads limits a_stat (program (num_for_rest l x a b c)) (drop at words) r
 one_step {words = words} sp l x a b c at r is d =

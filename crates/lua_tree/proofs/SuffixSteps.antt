@@ -1,5 +1,5 @@
 -- Steps of prefix expressions: their beginnings, indices and calls.
-use Rattle.std.proofs.Common.{◌≡◌, ℕ, suc, ◌+◌, ◌-◌, ◌<◌, ◌≤◌, max, Bool, Option, None, ◌⊎◌, inl, inr, true, false, List, [], ◌∷◌, Result, Ok, Err, Some, Global, drop, take, length, refl, sym, ap, ◌∙◌, subst, rules, arith}
+use Rattle.std.proofs.Common.{◌≡◌, ℕ, zero, suc, ◌+◌, ◌-◌, ◌<◌, ◌≤◌, max, Bool, Option, None, ◌⊎◌, inl, inr, true, false, List, [], ◌∷◌, Result, Ok, Err, Some, Global, drop, take, length, refl, sym, ap, ◌∙◌, subst, rules, arith}
 use Rattle.std.specs.Prelude.{slice_get, nat_lt, IfOk, IfErr, All, get_or}
 use Rattle.std.specs.declared.boxed.Box.{Box}
 use Rattle.std.proofs.lemmas.Option.{slice_get_within, get_or_from_slice_get}
@@ -25,7 +25,7 @@ use Rattle.lua_tree.specs.Words.{Word, Key, key, Spot, Tok, tok, word_of, spot_o
 use Rattle.lua_tree.specs.Grammar.{call_line, line_or_none}
 use Rattle.lua_tree.specs.Attributes.{Limit, breaks, varargs, nodes, locals, calls, Counts, at_call, height, most_exprs, most_fields}
 use Rattle.lua_tree.specs.Reading as r
-use Rattle.lua_tree.specs.Reading.{Sort, Value, Rule, Prog, give, take as takes_token, look, expect, expect_name, then, Place, Answer, got, stuck, unexpected, over, fault_number, Keeps, Passes as PassesLimit, Reads, Fault, gives, fails, no_name, thens, stops as stops_in, opening, deep, free, down, held, unfinished, a_call, a_paren, expr, exprs, fields, prefix, suffixes, suffixes_of, called, args, args_of, paren_args, program, an_expr, an_args}
+use Rattle.lua_tree.specs.Reading.{Sort, Value, Rule, Prog, give, fail, take as takes_token, look, expect, expect_name, then, Place, Answer, got, stuck, unexpected, over, fault_number, Keeps, Passes as PassesLimit, Reads, Fault, gives, fails, no_name, thens, stops as stops_in, opening, deep, free, down, held, unfinished, a_call, a_paren, expr, exprs, fields, prefix, suffixes, suffixes_of, called, args, args_of, paren_args, program, an_expr, an_args}
 use Rattle.lua_tree.specs.Spelled.{Spelled, kind_at, kind_of, spot_behind, IsWord}
 use Rattle.lua_tree.specs.View.{expr_view, exprs_view, fields_view}
 use Rattle.lua_tree.specs.Begins.{begins_suffix, opens_arguments}
@@ -61,6 +61,9 @@ view_method l a x es = search (rules, kind.the_lemmas, expr_type.the_lemmas)
 pub view_braces : (l : ℕ) (fs : List Field) → expr_view (record { line = l; what = what.Table fs }) ≡ t.table l (fields_view fs)
 view_braces l fs = search (rules, kind.the_lemmas, expr_type.the_lemmas)
 
+pub view_string : (l : ℕ) (x : List ℕ) → expr_view (record { line = l; what = what.Str x }) ≡ t.str l x
+view_string l x = search (rules, kind.the_lemmas, expr_type.the_lemmas)
+
 pub high_paren : (l n : ℕ) (b : Box Expr Global) (e : Expr) → b.value ≡ e → n ≡ expr_tall e → 1 + n ≡ expr_tall (record { line = l; what = what.Paren b })
 high_paren l n b e v h = let x = ap height (view_paren l b) in let y = tall_paren l (expr_view b.value) in let z = ap expr_tall v in omega (arith, x, y, z, h)
 
@@ -91,7 +94,7 @@ high_only e es l x same v = let y = ap exprs_tall same in let z = ap height v in
 pub high_member : (l m n : ℕ) (x : List ℕ) (a b : Box Expr Global) (d : Expr) → a.value ≡ d → b.value ≡ record { line = m; what = what.Str x } → n ≡ expr_tall d → 1 + n ≡ expr_tall (record { line = l; what = what.Index a b })
 high_member l m n x a b d v u h =
     let y = ap height (view_index l a b) in let z = tall_index l (expr_view a.value) (expr_view b.value) in
-    let p = ap expr_tall v in let q = ap expr_tall u in let k = ap height (view_str m x) in let i = one_high (expr_view d) in omega (arith, y, z, p, q, k, i, h)
+    let p = ap expr_tall v in let q = ap expr_tall u in let k = ap height (view_string m x) in let i = one_high (expr_view d) in omega (arith, y, z, p, q, k, i, h)
 
 -- ---- the line of a token
 
@@ -106,17 +109,17 @@ token_line source cut at u e =
 -- ---- a part of a rule
 
 -- a part, and what is read behind it
-pub behind_part : {T U : Type 0} {s : Sort} {p : Prog s} (after : T → Prog s) (view : U → Value s) (at : ℕ) (words : List Tok) (read : Read T) (result : Result (Read U) Stop)
+pub behind_part : {T U : Type 0} {s : Sort} (p : Prog s) (after : T → Prog s) (view : U → Value s) (at : ℕ) (words : List Tok) (read : Read T) (result : Result (Read U) Stop)
     → Parts after (λ e whole. whole) p at (Ok read) words → Answers view (after read.node) read.at result words → Answers view p at result words
-behind_part after view at words read (Ok behind) part d = part (got (view behind.node) (drop behind.at words)) d
-behind_part after view at words read (Err (stops.At f place)) part d = part (stuck (fault_of f) (drop place words)) d
-behind_part after view at words read (Err stops.Memory) part d = tt
+behind_part p after view at words read (Ok behind) part d = part (got (view behind.node) (drop behind.at words)) d
+behind_part p after view at words read (Err (stops.At f place)) part d = part (stuck (fault_of f) (drop place words)) d
+behind_part p after view at words read (Err stops.Memory) part d = tt
 
 -- why a part stopped is why the whole does
-pub stopped_part : {T U : Type 0} {s q : Sort} {p : Prog s} (after : T → Prog q) (put : T → Value q → Value s) (view : U → Value s) (at : ℕ) (words : List Tok) (stop : Stop)
+pub stopped_part : {T U : Type 0} {s q : Sort} (p : Prog s) (after : T → Prog q) (put : T → Value q → Value s) (view : U → Value s) (at : ℕ) (words : List Tok) (stop : Stop)
     → Parts after put p at (Err stop) words → Answers view p at (Err stop) words
-stopped_part after put view at words (stops.At f place) d = d
-stopped_part after put view at words stops.Memory d = tt
+stopped_part p after put view at words (stops.At f place) d = d
+stopped_part p after put view at words stops.Memory d = tt
 
 -- the same program at the same place
 pub as_prog : {s : Sort} {p q : Prog s} {ts us : List Tok} {r : Answer (Value s)} → p ≡ q → ts ≡ us → Reads limits s p ts r → Reads limits s q us r
@@ -199,7 +202,7 @@ member_parts source sp k scope base (Err stops.Memory) dot tall n behind err m =
 
 -- a token that opens arguments keeps the limits
 pub keeps_opening : (n line : ℕ) → n ≤ 200 → 1 ≤ line → Keeps limits (opening n line)
-keeps_opening n 0 h p = absurd (omega (arith, p))
+keeps_opening n zero h p x = absurd (omega (arith, p))
 keeps_opening n (suc l) h p breaks = omega arith
 keeps_opening n (suc l) h p varargs = omega arith
 keeps_opening n (suc l) h p nodes = h
@@ -286,25 +289,25 @@ opened (Some j) h = absurd (false≢true h)
 -- ---- parentheses
 
 -- what is counted where a node has to come around them
-pub held_counts : {c d : Counts} {b q : Bool} → c ≡ held b d → b ≡ q → c ≡ held q d
-held_counts {d = d} e f = e ∙ ap (λ (x : Bool). held x d) f
+pub held_counts : {c : Counts} (d : Counts) {b q : Bool} → c ≡ held b d → b ≡ q → c ≡ held q d
+held_counts d e f = e ∙ ap (λ (x : Bool). held x d) f
 
-pub paren_deep : {source : Source} {words : List Tok} (sp : Spelled source.bytes.now 1 source.tokens.now words) (k : Place) (c : Counts) (at : ℕ) → kind_at source.tokens.now at ≡ Some kinds.OpenParen
+pub paren_deep : {bytes : List ℕ} {ts : List Token} {words : List Tok} (sp : Spelled bytes 1 ts words) (k : Place) (c : Counts) (at : ℕ) → kind_at ts at ≡ Some kinds.OpenParen
     → 200 < held (unfinished k a_paren) c nodes + 2 → Reads limits an_expr (program (prefix k c)) (drop at words) (stuck (over nodes) (drop at words))
 paren_deep sp k c at is high = let h = key_stands sp at kinds.OpenParen tt is in look_at h.is (passed_at h.is (passes_deep _ high))
 
 -- '(' and what is behind it
-pub paren_opens : {source : Source} {words : List Tok} (sp : Spelled source.bytes.now 1 source.tokens.now words) (k : Place) (c : Counts) (at : ℕ) (r : Answer t.Expr) → kind_at source.tokens.now at ≡ Some kinds.OpenParen
+pub paren_opens : {bytes : List ℕ} {ts : List Token} {words : List Tok} (sp : Spelled bytes 1 ts words) (k : Place) (c : Counts) (at : ℕ) (r : Answer t.Expr) → kind_at ts at ≡ Some kinds.OpenParen
     → held (unfinished k a_paren) c nodes + 2 ≤ 200
-    → Reads limits an_expr (then (expr 0 (down (held (unfinished k a_paren) c))) (λ e. expect w.close_paren free (λ s'. then (suffixes k c (t.paren (line_of (slice_get source.tokens.now at)) e)) give))) (drop (at + 1) words) r
+    → Reads limits an_expr (then (expr 0 (down (held (unfinished k a_paren) c))) (λ e. expect w.close_paren free (λ s'. then (suffixes k c (t.paren (line_of (slice_get ts at)) e)) give))) (drop (at + 1) words) r
     → Reads limits an_expr (program (prefix k c)) (drop at words) r
-paren_opens {source = source} {words = words} sp k c at r is low d =
+paren_opens {bytes = bytes} {ts = ts} {words = words} sp k c at r is low d =
     let h = key_stands sp at kinds.OpenParen tt is in
     look_at h.is (take_at h.is (keeps_deep _ low)
     (next at words (subst (λ (l : ℕ). Reads limits an_expr (then (expr 0 (down (held (unfinished k a_paren) c))) (λ e. expect w.close_paren free (λ s'. then (suffixes k c (t.paren l e)) give))) (drop (at + 1) words) r) (sym h.line) d)))
 
 -- ')' and the suffixes behind it
-pub paren_closes : {source : Source} {words : List Tok} (sp : Spelled source.bytes.now 1 source.tokens.now words) (k : Place) (c : Counts) (l at later : ℕ) (inner e : t.Expr) (r : Answer t.Expr) → kind_at source.tokens.now at ≡ Some kinds.CloseParen
+pub paren_closes : {bytes : List ℕ} {ts : List Token} {words : List Tok} (sp : Spelled bytes 1 ts words) (k : Place) (c : Counts) (l at later : ℕ) (inner e : t.Expr) (r : Answer t.Expr) → kind_at ts at ≡ Some kinds.CloseParen
     → e ≡ t.paren l inner → later ≡ at + 1 → Reads limits an_expr (program (suffixes k c e)) (drop later words) r
     → Reads limits an_expr (expect w.close_paren free (λ s'. then (suffixes k c (t.paren l inner)) give)) (drop at words) (as_part (λ whole. whole) r)
 paren_closes {words = words} sp k c l at later inner e r is same behind d =
@@ -313,20 +316,20 @@ paren_closes {words = words} sp k c l at later inner e r is same behind d =
 
 -- ---- an index
 
-pub bracket_deep : {source : Source} {words : List Tok} (sp : Spelled source.bytes.now 1 source.tokens.now words) (k : Place) (c : Counts) (a : t.Expr) (at : ℕ) → kind_at source.tokens.now at ≡ Some kinds.OpenBracket
+pub bracket_deep : {bytes : List ℕ} {ts : List Token} {words : List Tok} (sp : Spelled bytes 1 ts words) (k : Place) (c : Counts) (a : t.Expr) (at : ℕ) → kind_at ts at ≡ Some kinds.OpenBracket
     → 200 < suc (c nodes) + height a → Reads limits an_expr (program (suffixes k c a)) (drop at words) (stuck (over nodes) (drop at words))
 bracket_deep sp k c a at is high = let h = key_stands sp at kinds.OpenBracket tt is in look_at h.is (passed_at h.is (passes_deep _ high))
 
-pub bracket_opens : {source : Source} {words : List Tok} (sp : Spelled source.bytes.now 1 source.tokens.now words) (k : Place) (c : Counts) (a : t.Expr) (at : ℕ) (r : Answer t.Expr) → kind_at source.tokens.now at ≡ Some kinds.OpenBracket
+pub bracket_opens : {bytes : List ℕ} {ts : List Token} {words : List Tok} (sp : Spelled bytes 1 ts words) (k : Place) (c : Counts) (a : t.Expr) (at : ℕ) (r : Answer t.Expr) → kind_at ts at ≡ Some kinds.OpenBracket
     → suc (c nodes) + height a ≤ 200
-    → Reads limits an_expr (then (expr 0 (down c)) (λ e. expect w.close_bracket free (λ s'. then (suffixes k c (t.index (line_of (slice_get source.tokens.now at)) a e)) give))) (drop (at + 1) words) r
+    → Reads limits an_expr (then (expr 0 (down c)) (λ e. expect w.close_bracket free (λ s'. then (suffixes k c (t.index (line_of (slice_get ts at)) a e)) give))) (drop (at + 1) words) r
     → Reads limits an_expr (program (suffixes k c a)) (drop at words) r
-bracket_opens {source = source} {words = words} sp k c a at r is low d =
+bracket_opens {bytes = bytes} {ts = ts} {words = words} sp k c a at r is low d =
     let h = key_stands sp at kinds.OpenBracket tt is in
     look_at h.is (take_at h.is (keeps_deep _ low)
     (next at words (subst (λ (l : ℕ). Reads limits an_expr (then (expr 0 (down c)) (λ e. expect w.close_bracket free (λ s'. then (suffixes k c (t.index l a e)) give))) (drop (at + 1) words) r) (sym h.line) d)))
 
-pub bracket_closes : {source : Source} {words : List Tok} (sp : Spelled source.bytes.now 1 source.tokens.now words) (k : Place) (c : Counts) (l at later : ℕ) (a inner e : t.Expr) (r : Answer t.Expr) → kind_at source.tokens.now at ≡ Some kinds.CloseBracket
+pub bracket_closes : {bytes : List ℕ} {ts : List Token} {words : List Tok} (sp : Spelled bytes 1 ts words) (k : Place) (c : Counts) (l at later : ℕ) (a inner e : t.Expr) (r : Answer t.Expr) → kind_at ts at ≡ Some kinds.CloseBracket
     → e ≡ t.index l a inner → later ≡ at + 1 → Reads limits an_expr (program (suffixes k c e)) (drop later words) r
     → Reads limits an_expr (expect w.close_bracket free (λ s'. then (suffixes k c (t.index l a inner)) give)) (drop at words) (as_part (λ whole. whole) r)
 bracket_closes {words = words} sp k c l at later a inner e r is same behind d =
@@ -335,13 +338,13 @@ bracket_closes {words = words} sp k c l at later a inner e r is same behind d =
 
 -- ---- a method's call
 
-pub colon_deep : {source : Source} {words : List Tok} (sp : Spelled source.bytes.now 1 source.tokens.now words) (k : Place) (c : Counts) (a : t.Expr) (at : ℕ) → kind_at source.tokens.now at ≡ Some kinds.Colon
+pub colon_deep : {bytes : List ℕ} {ts : List Token} {words : List Tok} (sp : Spelled bytes 1 ts words) (k : Place) (c : Counts) (a : t.Expr) (at : ℕ) → kind_at ts at ≡ Some kinds.Colon
     → 200 < suc (held (unfinished k a_call) c nodes) + height a → Reads limits an_expr (program (suffixes k c a)) (drop at words) (stuck (over nodes) (drop at words))
 colon_deep sp k c a at is high = let h = key_stands sp at kinds.Colon tt is in look_at h.is (passed_at h.is (passes_deep _ high))
 
 -- no name is behind ':'
-pub colon_alone : {source : Source} {words : List Tok} (sp : Spelled source.bytes.now 1 source.tokens.now words) (k : Place) (c : Counts) (a : t.Expr) (at : ℕ) → kind_at source.tokens.now at ≡ Some kinds.Colon
-    → suc (held (unfinished k a_call) c nodes) + height a ≤ 200 → (kind_at source.tokens.now (at + 1) ≡ Some kinds.Name → ⊥)
+pub colon_alone : {bytes : List ℕ} {ts : List Token} {words : List Tok} (sp : Spelled bytes 1 ts words) (k : Place) (c : Counts) (a : t.Expr) (at : ℕ) → kind_at ts at ≡ Some kinds.Colon
+    → suc (held (unfinished k a_call) c nodes) + height a ≤ 200 → (kind_at ts (at + 1) ≡ Some kinds.Name → ⊥)
     → Reads limits an_expr (program (suffixes k c a)) (drop at words) (stuck unexpected (drop (at + 1) words))
 colon_alone {words = words} sp k c a at is low none =
     let h = key_stands sp at kinds.Colon tt is in
@@ -359,38 +362,37 @@ colon_opens source {words = words} sp k c a at x r is low named d =
 
 -- ---- a call
 
-pub call_opens : {source : Source} {words : List Tok} (sp : Spelled source.bytes.now 1 source.tokens.now words) (k : Place) (c : Counts) (a : t.Expr) (at : ℕ) (r : Answer t.Expr) → opens_arguments (kind_at source.tokens.now at) ≡ true
+pub call_opens : {bytes : List ℕ} {ts : List Token} {words : List Tok} (sp : Spelled bytes 1 ts words) (k : Place) (c : Counts) (a : t.Expr) (at : ℕ) (r : Answer t.Expr) → opens_arguments (kind_at ts at) ≡ true
     → Reads limits an_expr (called k c a) (drop at words) r → Reads limits an_expr (program (suffixes k c a)) (drop at words) r
 call_opens sp k c a at r is d = look_as (some_call k c a _ _ _ (word_for sp at) is) d
 
 -- the arguments are too deep
-args_deep : {source : Source} {words : List Tok} (sp : Spelled source.bytes.now 1 source.tokens.now words) (n : ℕ) (c : Counts) (at : ℕ) → 200 < n
-    → ((kind_at source.tokens.now at ≡ Some kinds.OpenParen) ⊎ ((kind_at source.tokens.now at ≡ Some kinds.OpenBrace) ⊎ (kind_at source.tokens.now at ≡ Some kinds.Str)))
+args_deep : {bytes : List ℕ} {ts : List Token} {words : List Tok} (sp : Spelled bytes 1 ts words) (n : ℕ) (c : Counts) (at : ℕ) → 200 < n
+    → ((kind_at ts at ≡ Some kinds.OpenParen) ⊎ ((kind_at ts at ≡ Some kinds.OpenBrace) ⊎ (kind_at ts at ≡ Some kinds.Str)))
     → Reads limits an_args (program (args n c)) (drop at words) (stuck (over nodes) (drop at words))
 args_deep sp n c at high (inl is) = let h = key_stands sp at kinds.OpenParen tt is in look_at h.is (passed_at h.is (deep_opening n _ high))
 args_deep sp n c at high (inr (inl is)) = let h = key_stands sp at kinds.OpenBrace tt is in look_at h.is (passed_at h.is (deep_opening n _ high))
 args_deep sp n c at high (inr (inr is)) = let h = str_stands sp at is in look_at h.4.is (passed_at h.4.is (deep_opening n _ high))
 
-pub call_deep : {source : Source} {words : List Tok} (sp : Spelled source.bytes.now 1 source.tokens.now words) (k : Place) (c : Counts) (a : t.Expr) (at : ℕ) → opens_arguments (kind_at source.tokens.now at) ≡ true
+pub call_deep : {bytes : List ℕ} {ts : List Token} {words : List Tok} (sp : Spelled bytes 1 ts words) (k : Place) (c : Counts) (a : t.Expr) (at : ℕ) → opens_arguments (kind_at ts at) ≡ true
     → 200 < suc (held (unfinished k a_call) c nodes) + height a → Reads limits an_expr (program (suffixes k c a)) (drop at words) (stuck (over nodes) (drop at words))
 call_deep sp k c a at is high = call_opens sp k c a at _ is (stops_in (args_deep sp _ _ at high (opened _ is)))
 
 -- the suffixes behind arguments
-pub call_closes : {words : List Tok} (k : Place) (c : Counts) (at : ℕ) {a e : t.Expr} (r : Answer t.Expr) → e ≡ a → Reads limits an_expr (program (suffixes k c e)) (drop at words) r
-    → Reads limits an_expr (then (suffixes k c a) give) (drop at words) (as_part (λ whole. whole) r)
-call_closes k c at r same d = given {f = λ whole. whole} r (suffixes_behind k c same refl d)
+pub call_closes : {ts : List Tok} (k : Place) (c : Counts) {a e : t.Expr} (r : Answer t.Expr) → e ≡ a → Reads limits an_expr (program (suffixes k c e)) ts r
+    → Reads limits an_expr (then (suffixes k c a) give) ts (as_part (λ whole. whole) r)
+call_closes k c r same d = given {f = λ whole. whole} r (suffixes_behind k c same refl d)
 
 -- ---- listed arguments
 
-paren_spot : {source : Source} {words : List Tok} (sp : Spelled source.bytes.now 1 source.tokens.now words) (at : ℕ) → 0 < at → kind_at source.tokens.now at ≡ Some kinds.OpenParen
-    → (s : Spot) × (drop at words ≡ tok (key w.open_paren) s ∷ drop (suc at) words) × (s.line ≡ line_of (slice_get source.tokens.now at)) × (s.later ≡ nat_lt (line_of (slice_get source.tokens.now (at - 1))) (line_of (slice_get source.tokens.now at)))
-paren_spot sp 0 some is = absurd (omega (arith, some))
-paren_spot {source = source} {words = words} sp (suc k) some is =
-    let ts = source.tokens.now in
+paren_spot : {bytes : List ℕ} {ts : List Token} {words : List Tok} (sp : Spelled bytes 1 ts words) (at : ℕ) → 0 < at → kind_at ts at ≡ Some kinds.OpenParen
+    → (s : Spot) × (drop at words ≡ tok (key w.open_paren) s ∷ drop (suc at) words) × (s.line ≡ line_of (slice_get ts at)) × (s.later ≡ nat_lt (line_of (slice_get ts (at - 1))) (line_of (slice_get ts at)))
+paren_spot sp zero some is = absurd (omega (arith, some))
+paren_spot {bytes = bytes} {ts = ts} {words = words} sp (suc k) some is =
     let u = kind_token ts (suc k) kinds.OpenParen is in
     let h = here sp (suc k) u.0 u.1 in
     let spot = spot_behind (line_of (slice_get ts k)) u.0 in
-    let word : h.word ≡ key w.open_paren = subst (λ (j : Kind). IsWord source.bytes.now u.0 j h.word) u.2 h.is_word in
+    let word : h.word ≡ key w.open_paren = subst (λ (j : Kind). IsWord bytes u.0 j h.word) u.2 h.is_word in
     let before : suc k - 1 ≡ k = omega arith in
     (spot, subst (λ (v : Word). drop (suc k) words ≡ tok v spot ∷ drop (suc (suc k)) words) word h.stands, ap line_of (sym u.1),
       ap (nat_lt (line_of (slice_get ts k))) (ap line_of (sym u.1)) ∙ ap (λ (j : ℕ). nat_lt (line_of (slice_get ts j)) (line_of (slice_get ts (suc k)))) (sym before))
@@ -402,10 +404,10 @@ is_less : (a b : ℕ) → a < b → nat_lt a b ≡ true
 is_less a b h = grind arith
 
 -- '(' on a later line
-pub listed_ambiguous : {source : Source} {words : List Tok} (sp : Spelled source.bytes.now 1 source.tokens.now words) (n : ℕ) (c : Counts) (at : ℕ) → n ≤ 200 → 0 < at → kind_at source.tokens.now at ≡ Some kinds.OpenParen
-    → line_of (slice_get source.tokens.now (at - 1)) < line_of (slice_get source.tokens.now at)
+pub listed_ambiguous : {bytes : List ℕ} {ts : List Token} {words : List Tok} (sp : Spelled bytes 1 ts words) (n : ℕ) (c : Counts) (at : ℕ) → n ≤ 200 → 0 < at → kind_at ts at ≡ Some kinds.OpenParen
+    → line_of (slice_get ts (at - 1)) < line_of (slice_get ts at)
     → Reads limits an_args (program (args n c)) (drop at words) (stuck (over calls) (drop at words))
-listed_ambiguous {source = source} {words = words} sp n c at low some is less =
+listed_ambiguous {bytes = bytes} {ts = ts} {words = words} sp n c at low some is less =
     let h = paren_spot sp at some is in
     let later = h.3 ∙ is_less _ _ less in
     look_at h.1 (passed_at h.1 (subst (λ (b : Bool). PassesLimit limits (opening n (line_or_none b h.0.line)) calls) (sym later) (ambiguous n low)))
@@ -423,7 +425,7 @@ listed_opens source {words = words} sp cut n c at r low some is less d =
     look_at h.1 (take_at h.1 keeps (next at words (just (subst (λ (l : ℕ). Reads limits an_args (program (paren_args l c)) (drop (at + 1) words) r) (sym line) d))))
 
 -- ')' at once
-pub listed_none : {source : Source} {words : List Tok} (sp : Spelled source.bytes.now 1 source.tokens.now words) (l : ℕ) (c : Counts) (at : ℕ) → kind_at source.tokens.now (at + 1) ≡ Some kinds.CloseParen
+pub listed_none : {bytes : List ℕ} {ts : List Token} {words : List Tok} (sp : Spelled bytes 1 ts words) (l : ℕ) (c : Counts) (at : ℕ) → kind_at ts (at + 1) ≡ Some kinds.CloseParen
     → Reads limits an_args (program (paren_args l c)) (drop (at + 1) words) (got (l, t.no_exprs) (drop (at + 2) words))
 listed_none {words = words} sp l c at is =
     let h = key_stands sp (at + 1) kinds.CloseParen tt is in
@@ -431,7 +433,7 @@ listed_none {words = words} sp l c at is =
     look_at h.is (take_at h.is keeps_free (moved (at + 1) (at + 2) words place gives))
 
 -- some, and ')'
-pub listed_some : {source : Source} {words : List Tok} (sp : Spelled source.bytes.now 1 source.tokens.now words) (l : ℕ) (c : Counts) (at : ℕ) (r : Answer (Value an_args)) → (kind_at source.tokens.now (at + 1) ≡ Some kinds.CloseParen → ⊥)
+pub listed_some : {bytes : List ℕ} {ts : List Token} {words : List Tok} (sp : Spelled bytes 1 ts words) (l : ℕ) (c : Counts) (at : ℕ) (r : Answer (Value an_args)) → (kind_at ts (at + 1) ≡ Some kinds.CloseParen → ⊥)
     → Reads limits an_args (then (exprs c) (λ es. expect w.close_paren free (λ s'. give (l, es)))) (drop (at + 1) words) r
     → Reads limits an_args (program (paren_args l c)) (drop (at + 1) words) r
 listed_some sp l c at r none d = look_as (paren_args_other l c _ _ (no_key sp (at + 1) kinds.CloseParen (key w.close_paren) refl none)) d
@@ -457,7 +459,7 @@ one_table l fs e es i s =
 -- ---- suffixes, one after the other
 
 -- no more of them
-pub suffixes_end : {source : Source} {words : List Tok} (sp : Spelled source.bytes.now 1 source.tokens.now words) (k : Place) (c : Counts) (a : t.Expr) (at : ℕ) → begins_suffix (kind_at source.tokens.now at) ≡ false
+pub suffixes_end : {bytes : List ℕ} {ts : List Token} {words : List Tok} (sp : Spelled bytes 1 ts words) (k : Place) (c : Counts) (a : t.Expr) (at : ℕ) → begins_suffix (kind_at ts at) ≡ false
     → Reads limits an_expr (program (suffixes k c a)) (drop at words) (got a (drop at words))
 suffixes_end sp k c a at none = look_as (no_suffix k c a _ _ _ (word_for sp at) none) gives
 

@@ -3,6 +3,7 @@
 use Rattle.std.proofs.Common.{◌≡◌, ℕ, suc, ◌+◌, ◌<◌, ◌≤◌, max, List, [], ◌∷◌, ◌++◌, Result, Ok, Err, Some, drop, take, map, length, refl, sym, ap, ◌∙◌, subst, rules, arith}
 use Rattle.std.specs.Prelude.{slice_get}
 use Rattle.lua_token.specs.declared.kind.Kind.TheVariants as kinds
+use Rattle.lua_token.specs.declared.token.Token.{Token}
 use Rattle.lua_tree.specs.declared.source.Read.{Read}
 use Rattle.lua_tree.specs.declared.source.Source.{Source}
 use Rattle.lua_tree.specs.declared.stop.Stop.{Stop}
@@ -56,6 +57,10 @@ joined : {A : Type 0} (xs : List A) (x : A) (rest : List A) → (xs ++ x ∷ [])
 joined [] x rest = refl
 joined (y ∷ xs) x rest = ap (λ ys. y ∷ ys) (joined xs x rest)
 
+-- one name is the first
+pub first_front : (f : Bytes) (items : List Bytes) → items ≡ f ∷ [] → items ≡ f ∷ drop 1 items
+first_front f items e = e ∙ ap (λ (ys : List Bytes). f ∷ drop 1 ys) (sym e)
+
 -- the first of some names stays first
 pub first_stays : (f x : Bytes) (old new : List Bytes) → old ≡ f ∷ drop 1 old → new ≡ old ++ x ∷ [] → new ≡ f ∷ drop 1 new
 first_stays f x old new h e =
@@ -97,19 +102,19 @@ one_more_name source {words = words} sp m start n end n' end' f x items items' c
     (so_far (as_part (λ (rest : List Bytes). x ∷ rest) r) (look_at i.is (take_at i.is keeps_free (next end words (name_at j.is (keeps_many (suc n) room) (given {f = λ (rest : List Bytes). x ∷ rest} r d'))))))
 
 -- no comma follows
-pub names_end : (source : Source) {words : List Tok} (sp : Spelled source.bytes.now 1 source.tokens.now words) (m start n end : ℕ) (items node : List Bytes)
-    → (kind_at source.tokens.now end ≡ Some kinds.Comma → ⊥) → node ≡ items → NamesSoFar words m start n end items
+pub names_end : {bytes : List ℕ} {ts : List Token} {words : List Tok} (sp : Spelled bytes 1 ts words) (m start n end : ℕ) (items node : List Bytes)
+    → (kind_at ts end ≡ Some kinds.Comma → ⊥) → node ≡ items → NamesSoFar words m start n end items
     → Reads limits some_names (program (more_names m)) (drop start words) (got (drop 1 node) (drop end words))
-names_end source {words = words} sp m start n end items node none same so_far =
+names_end {words = words} sp m start n end items node none same so_far =
     subst (λ (ys : List Bytes). Reads limits some_names (program (more_names m)) (drop start words) (got ys (drop end words)))
     (nil_behind (drop 1 items) ∙ ap (λ (ys : List Bytes). drop 1 ys) (sym same))
     (so_far (got [] (drop end words)) (look_as (more_names_other n _ _ (no_key sp end kinds.Comma (key w.comma) refl none)) gives))
 
 -- one more name isn't there
-pub names_stop : (source : Source) {words : List Tok} (sp : Spelled source.bytes.now 1 source.tokens.now words) (m start n end : ℕ) (items : List Bytes)
-    → kind_at source.tokens.now end ≡ Some kinds.Comma → NamesSoFar words m start n end items
+pub names_stop : {bytes : List ℕ} {ts : List Token} {words : List Tok} (sp : Spelled bytes 1 ts words) (m start n end : ℕ) (items : List Bytes)
+    → kind_at ts end ≡ Some kinds.Comma → NamesSoFar words m start n end items
     → (x : Fault) (us : List Tok) → Reads limits some_names (expect_name (many (suc n)) (λ y s'. then (more_names (suc n)) (λ xs. give (y ∷ xs)))) (drop (end + 1) words) (stuck x us)
     → Reads limits some_names (program (more_names m)) (drop start words) (stuck x us)
-names_stop source {words = words} sp m start n end items comma so_far x us d =
+names_stop {words = words} sp m start n end items comma so_far x us d =
     let i = key_stands sp end kinds.Comma tt comma in
     so_far (stuck x us) (look_at i.is (take_at i.is keeps_free (next end words d)))

@@ -10,7 +10,7 @@ use Rattle.lua_tree.proofs.suffixes.name.Goals as goal
 pub returns-clause-ok : goal.returns-clause-ok
 returns-clause-ok c =
     let n = c.in_ok-name.ensures.ok in
-    (n.0, n.1, n.2, c.leaf.ensures.view ∙ (view_name _ _ ∙ (ap (λ l. t.name l c.in_ok-name.field-0) (ap line_of n.1) ∙ ap (t.name n.0.line) n.3)))
+    (n.0, n.1, n.2, c.leaf.ensures.view ∙ (view_name _ _ ∙ (ap (λ l. t.name l c.in_ok-name.name) (ap line_of n.1) ∙ ap (t.name n.0.line) n.3)))
 
 pub returns-in_err-name-clause-err : goal.returns-in_err-name-clause-err
 returns-in_err-name-clause-err c =
