@@ -1,7 +1,9 @@
 -- How statements and blocks are seen, and how high they are.
-use Rattle.std.proofs.Common.{◌≡◌, ℕ, suc, ◌+◌, max, List, [], ◌∷◌, ◌++◌, map, Option, Some, None, refl, sym, ap, ◌∙◌, subst, option_map, rules, arith}
+use Rattle.std.proofs.Common.{◌≡◌, ℕ, suc, ◌+◌, max, Bool, true, false, not, List, [], ◌∷◌, ◌++◌, map, Option, Some, None, refl, sym, ap, ◌∙◌, subst, option_map, rules, arith}
+use Rattle.std.proofs.lemmas.Bool.{false≢true}
 use Rattle.lua_tree.specs.declared.tree.Expr.{Expr}
 use Rattle.lua_tree.specs.declared.tree.ExprKind as kind
+use Rattle.lua_tree.specs.declared.tree.ExprKind.TheViews.{out-Arm, roll-Arm, roll-Block}
 use Rattle.lua_tree.specs.declared.tree.Stat.{Stat}
 use Rattle.lua_tree.specs.declared.tree.Stat as stat
 use Rattle.lua_tree.specs.declared.tree.StatKind as stat_kind
@@ -29,10 +31,13 @@ pub view_if : (l : ℕ) (xs : List Arm) (o : Option Block)
     → stat_view (record { line = l; what = stats.If xs o }) ≡ t.if_stat l (arms_of (map arm_view xs) (else_of (option_map block_view o)))
 view_if l xs o = search (rules, kind.the_lemmas, stat.the_lemmas, stat_kind.the_lemmas)
 
-pub view_arm : (e : Expr) (b : Block) (rest : t.Arms) → arm_view (record { test = e; block = b }) rest ≡ t.arm_and (expr_view e) (block_view b) rest
+pub view_arm : (e : Expr) (b : Block) (rest : t.Arms) → arm_view (roll-Arm (record { test = e; block = b })) rest ≡ t.arm_and (expr_view e) (block_view b) rest
 view_arm e b rest = search (rules, kind.the_lemmas, stat.the_lemmas, stat_kind.the_lemmas, arm.the_lemmas)
 
-pub view_block : (ss : List Stat) → block_view (record { stats = ss }) ≡ block_of (map stat_view ss)
+pub view_arm_of : (a : Arm) (rest : t.Arms) → arm_view a rest ≡ t.arm_and (expr_view (out-Arm a).test) (block_view (out-Arm a).block) rest
+view_arm_of a rest = search (rules, kind.the_lemmas, stat.the_lemmas, stat_kind.the_lemmas, arm.the_lemmas)
+
+pub view_block : (ss : List Stat) → block_view (roll-Block (record { stats = ss })) ≡ block_of (map stat_view ss)
 view_block ss = search (rules, kind.the_lemmas, stat.the_lemmas, stat_kind.the_lemmas, block.the_lemmas)
 
 pub high_do : (l n : ℕ) (b : Block) → n ≡ block_tall b → 1 + n ≡ stat_tall (record { line = l; what = stats.Do b })
@@ -41,7 +46,7 @@ high_do l n b h = let x = ap (most_stat nodes 0) (view_do l b) in let y = tall_d
 pub high_return : (l n : ℕ) (es : List Expr) → n ≡ exprs_tall es → n ≡ stat_tall (record { line = l; what = stats.Return es })
 high_return l n es h = let x = ap (most_stat nodes 0) (view_return l es) in omega (arith, x, h)
 
-pub high_arm : (n m : ℕ) (e : Expr) (b : Block) → n ≡ expr_tall e → m ≡ block_tall b → max n (1 + m) ≡ arm_tall (record { test = e; block = b })
+pub high_arm : (n m : ℕ) (e : Expr) (b : Block) → n ≡ expr_tall e → m ≡ block_tall b → max n (1 + m) ≡ arm_tall (roll-Arm (record { test = e; block = b }))
 high_arm n m e b h i = let x = ap (most_arms nodes 0) (view_arm e b t.no_else) in let y = tall_arm (expr_view e) (block_view b) t.no_else in omega (arith, x, y, h, i)
 
 pub high_else : (n : ℕ) (b : Block) → n ≡ block_tall b → 1 + n ≡ else_tall (Some b)
@@ -50,11 +55,10 @@ high_else n b h = let y = tall_else (block_view b) in omega (arith, y, h)
 -- an arm in front of others
 pub tall_arm_and : (a : Arm) (rest : t.Arms) → most_arms nodes 0 (arm_view a rest) ≡ max (arm_tall a) (most_arms nodes 0 rest)
 tall_arm_and a rest =
-    let v = view_arm a.test a.block in
-    let x = ap (most_arms nodes 0) (v rest) in
-    let y = ap (most_arms nodes 0) (v t.no_else) in
-    let z = tall_arm (expr_view a.test) (block_view a.block) rest in
-    let u = tall_arm (expr_view a.test) (block_view a.block) t.no_else in omega (arith, x, y, z, u)
+    let x = ap (most_arms nodes 0) (view_arm_of a rest) in
+    let y = ap (most_arms nodes 0) (view_arm_of a t.no_else) in
+    let z = tall_arm (expr_view (out-Arm a).test) (block_view (out-Arm a).block) rest in
+    let u = tall_arm (expr_view (out-Arm a).test) (block_view (out-Arm a).block) t.no_else in omega (arith, x, y, z, u)
 
 -- one more arm, and an `else` behind arms
 pub arms_tall_last : (xs : List Arm) (a : Arm) → arms_tall (xs ++ a ∷ []) ≡ max (arms_tall xs) (arm_tall a)
@@ -81,7 +85,7 @@ pub stats_tall_last : (ss : List Stat) (s : Stat) → stats_tall (ss ++ s ∷ []
 stats_tall_last [] s = omega arith
 stats_tall_last (d ∷ ss) s = let h = stats_tall_last ss s in omega (arith, h)
 
-pub high_block : (n : ℕ) (ss : List Stat) → n ≡ stats_tall ss → n ≡ block_tall (record { stats = ss })
+pub high_block : (n : ℕ) (ss : List Stat) → n ≡ stats_tall ss → n ≡ block_tall (roll-Block (record { stats = ss }))
 high_block n ss h = let x = ap (most_block nodes 0) (view_block ss) in omega (arith, x, h)
 
 -- what stands in front of what was read goes on to one more
@@ -97,17 +101,17 @@ one_more_arm {p = p} {ts = ts} xs a r d =
 
 -- an arm in front of what follows it
 pub as_arm : {p : Prog some_arms} {ts : List Tok} (e : Expr) (b : Block) (r : Answer t.Arms)
-    → Reads limits some_arms p ts (as_part (t.arm_and (expr_view e) (block_view b)) r) → Reads limits some_arms p ts (as_part (arm_view (record { test = e; block = b })) r)
+    → Reads limits some_arms p ts (as_part (t.arm_and (expr_view e) (block_view b)) r) → Reads limits some_arms p ts (as_part (arm_view (roll-Arm (record { test = e; block = b }))) r)
 as_arm {p = p} {ts = ts} e b r d =
     subst (λ (o : Answer t.Arms). Reads limits some_arms p ts o) (ap (λ (f : t.Arms → t.Arms). as_part f r) (λ i rest. sym (view_arm e b rest) i)) d
 
 -- the statements that were read are the block
 pub whole_block : {p : Prog a_block} {ts us : List Tok} (ss : List Stat) → Reads limits a_block p ts (got (stats_onto ss t.no_stats) us)
-    → Reads limits a_block p ts (got (block_view (record { stats = ss })) us)
+    → Reads limits a_block p ts (got (block_view (roll-Block (record { stats = ss }))) us)
 whole_block {p = p} {ts = ts} {us = us} ss d = subst (λ (b : t.Block). Reads limits a_block p ts (got b us)) (stats_end ss ∙ sym (view_block ss)) d
 
 pub whole_last : {p : Prog a_block} {ts us : List Tok} (ss : List Stat) (s : Stat) → Reads limits a_block p ts (got (stats_onto ss (t.stat_and (stat_view s) t.no_stats)) us)
-    → Reads limits a_block p ts (got (block_view (record { stats = ss ++ s ∷ [] })) us)
+    → Reads limits a_block p ts (got (block_view (roll-Block (record { stats = ss ++ s ∷ [] }))) us)
 whole_last {p = p} {ts = ts} {us = us} ss s d =
     whole_block (ss ++ s ∷ []) (subst (λ (b : t.Block). Reads limits a_block p ts (got b us)) (sym (stats_last ss s t.no_stats)) d)
 
@@ -115,3 +119,19 @@ whole_last {p = p} {ts = ts} {us = us} ss s d =
 pub whole_if : (l m : ℕ) (xs : List Arm) (o : Option Block) → l ≡ m
     → t.if_stat l (arms_onto xs (else_of (option_map block_view o))) ≡ stat_view (record { line = m; what = stats.If xs o })
 whole_if l m xs o e = ap (λ (k : ℕ). t.if_stat k (arms_onto xs (else_of (option_map block_view o)))) e ∙ (ap (t.if_stat m) (arms_end xs (else_of (option_map block_view o))) ∙ sym (view_if m xs o))
+
+-- an arm and an `else` as what a rule reads
+abbrev pub arm_shown : Arm → t.Arms
+arm_shown a = arm_view a t.no_else
+
+abbrev pub else_shown : Option Block → t.Arms
+else_shown o = else_of (option_map block_view o)
+
+-- a test that is turned round
+pub not_both : (b : Bool) → not b ≡ true → b ≡ true → ⊥
+not_both true e h = false≢true e
+not_both false e h = false≢true h
+
+pub not_false : (b : Bool) → not b ≡ false → b ≡ true
+not_false true e = refl
+not_false false e = absurd (false≢true (sym e))

@@ -1,4 +1,5 @@
-use Rattle.std.proofs.Common.{◌≡◌, ◌+◌, ℕ, refl}
+use Rattle.std.proofs.Common.{◌≡◌, ◌+◌, ℕ, refl, sym, ◌∙◌}
+use Rattle.std.proofs.lemmas.Bool.{false≢true}
 use Rattle.lua_token.specs.declared.kind.Kind.TheVariants as kinds
 use Rattle.lua_tree.specs.Words as w
 use Rattle.lua_tree.specs.Reading.{gives}
@@ -15,4 +16,4 @@ returns-then-is-clause-read c words sp =
 
 pub returns-else-is-clause-read : goal.returns-else-is-clause-read
 returns-else-is-clause-read c words sp =
-    look_as (semi_other _ _ (no_key sp c.args.at kinds.Semicolon (w.key w.semicolon) refl (λ e. ?))) gives
+    look_as (semi_other _ _ (no_key sp c.args.at kinds.Semicolon (w.key w.semicolon) refl (λ e. false≢true (sym c.if-is.false ∙ c.is.ensures.value.1 e)))) gives
