@@ -1,7 +1,9 @@
 -- What the steps of a function that reads come to, as steps of its rule's program.
-use Rattle.std.proofs.Common.{◌≡◌, ℕ, suc, ◌+◌, ◌<◌, ◌≤◌, List, [], ◌∷◌, Result, Ok, Err, Option, Some, None, drop, refl, sym, ap, ◌∙◌, subst, arith}
+use Rattle.std.proofs.Common.{◌≡◌, ℕ, suc, ◌+◌, ◌<◌, ◌≤◌, max, List, [], ◌∷◌, Result, Ok, Err, Option, Some, None, drop, refl, sym, ap, ◌∙◌, subst, arith}
 use Rattle.std.specs.Prelude.{slice_get, IfErr}
 use Rattle.std.specs.Result.{IsErrAnd}
+use Rattle.std.specs.Ordering.{ord_max, nat_cmp}
+use Rattle.std.proofs.lemmas.Bool.Decides.{nat_tests}
 use Rattle.lua_token.specs.declared.kind.Kind.{Kind}
 use Rattle.lua_token.specs.declared.kind.Kind.TheVariants as kinds
 use Rattle.lua_token.specs.declared.token.Token.{Token}
@@ -198,3 +200,7 @@ pub of_part : {T U : Type 0} {s q : Sort} (p : Prog s) (after : T → Prog q) (p
     → Parts after put p at (Err stop) words → Answers shown p at (Err stop) words
 of_part p after put shown at words (stops.At f place) d = d
 of_part p after put shown at words stops.Memory d = tt
+
+-- the greater of two numbers, as the code has it
+pub greater_is : (n a b : ℕ) → n ≡ ord_max nat_cmp a b → n ≡ max a b
+greater_is n a b e = grind (arith, nat_tests)

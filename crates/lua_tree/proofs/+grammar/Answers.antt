@@ -11,7 +11,7 @@ use Rattle.lua_tree.specs.Reading as r
 use Rattle.lua_tree.specs.Reading.{gives, stops, thens}
 use Rattle.lua_tree.specs.Spelled.{kind_at}
 use Rattle.lua_tree.specs.View.{arm_view, block_view, expr_view, exprs_view, stat_view}
-use Rattle.lua_tree.specs.Answer.{counts}
+use Rattle.lua_tree.specs.Answer.{counts, limits}
 use Rattle.lua_tree.proofs.Taking.{expect_at, just, keeps_deep, keeps_free, keeps_many, look_at, name_at, name_passed, passed_at, passes_deep, passes_many, take_at}
 use Rattle.lua_tree.proofs.Marks.{key_stands, name_stands, no_key, no_name_there, str_stands}
 use Rattle.lua_tree.proofs.Others as others
@@ -71,7 +71,7 @@ pub statements::return_statement-returns-then-ends_return-clause-answer : goal.s
 statements::return_statement-returns-then-ends_return-clause-answer t c words sp =
     let h = key_stands sp c.args.at kinds.Return tt c.requires.here in
     look_at h.is (take_at h.is keeps_free (next c.args.at words (just
-    (look_as (by_kind.return_ends _ _ _ _ _ (word_for sp (c.args.at + 1)) (sym c.ends_return.ensures ∙ c.if-ends_return.true)) (gave (ap (λ l. t.return_stat l t.no_exprs) (h.line ∙ sym c.line_at-line.ensures) ∙ sym (st.view_return _ _)))))))
+    (look_as (by_kind.return_ends _ _ _ _ _ (word_for sp (c.args.at + 1)) (sym c.ends_return.ensures ∙ c.if-ends_return.true)) (gave (st.bare_return _ _ _ (h.line ∙ sym c.line_at-line.ensures) c.new.ensures))))))
 
 pub statements::return_statement-returns-in_err-values-clause-answer : goal.statements::return_statement-returns-in_err-values-clause-answer
 statements::return_statement-returns-in_err-values-clause-answer t c words sp =
@@ -85,7 +85,7 @@ statements::return_statement-returns-clause-answer t c words sp =
     let h = key_stands sp c.args.at kinds.Return tt c.requires.here in
     look_at h.is (take_at h.is keeps_free (next c.args.at words (just
     (look_as (by_kind.return_goes _ _ _ _ _ (word_for sp (c.args.at + 1)) (sym c.ends_return.ensures ∙ c.if-ends_return.false))
-    (thens (c.in_ok-values.ensures.answer words sp) (gave (ap (λ l. t.return_stat l _) (h.line ∙ sym c.line_at-line.ensures) ∙ sym (st.view_return _ _))))))))
+    (thens (c.in_ok-values.ensures.answer words sp) (gave (st.return_is _ _ c.in_ok-values.values.node (h.line ∙ sym c.line_at-line.ensures))))))))
 
 -- ---- conditions
 
@@ -121,7 +121,7 @@ pub conditions::arm-returns-clause-moves : goal.conditions::arm-returns-clause-m
 conditions::arm-returns-clause-moves t c = record {
   forth = search rules;
   within = search rules;
-  high = st.high_arm _ _ _ _ c.in_ok-test.ensures.moves.high c.in_ok-body.ensures.moves.high;
+  high = st.arm_high _ _ _ _ _ c.max.ensures c.in_ok-test.ensures.moves.high c.in_ok-body.ensures.moves.high;
   low = search rules;
 }
 
@@ -130,7 +130,7 @@ conditions::else_part-returns-in_err-expect-clause-answer t c words sp =
     faulted _ c.args.at words faults.Unexpected c.args.at (kind_at c.args.source.now.tokens.now c.args.at ≡ Some kinds.End → ⊥) c.in_err-expect.field-0.0 c.from_residual.result c.from_residual.ensures.1 c.in_err-expect.ensures.err
     (λ none. look_as (others.more_arms_other _ _ _
     (no_key sp c.args.at kinds.ElseIf (key w.elseif) refl c.requires.here)
-    (no_key sp c.args.at kinds.Else (key w.else_) refl (λ e. st.not_both _ c.if-not-is.true (c.is.ensures.value.1 e)))
+    (no_key sp c.args.at kinds.Else (key w.else_) refl (λ e. false≢true (sym c.if-not-is.true ∙ c.is.ensures.value.1 e)))
     (no_key sp c.args.at kinds.End (key w.end_) refl none)) r.fails)
 
 pub conditions::else_part-returns-then-not-is-clause-answer : goal.conditions::else_part-returns-then-not-is-clause-answer
@@ -140,26 +140,26 @@ conditions::else_part-returns-then-not-is-clause-answer t c words sp =
 
 pub conditions::else_part-returns-in_err-body-clause-answer : goal.conditions::else_part-returns-in_err-body-clause-answer
 conditions::else_part-returns-in_err-body-clause-answer t c words sp =
-    let h = key_stands sp c.args.at kinds.Else tt (c.is.ensures.value.0 (st.not_false _ c.if-not-is.false)) in
+    let h = key_stands sp c.args.at kinds.Else tt (c.is.ensures.value.0 c.if-not-is.false) in
     let d = at_counts block_view r.block _ _ (c.args.at + 1) words (Err c.in_err-body.field-0.0) c.deeper.ensures.counts (c.in_err-body.ensures.answer words sp) in
     stopped block_view _ (c.args.at + 1) c.args.at words c.in_err-body.field-0.0 c.from_residual-in_err-body.result c.from_residual-in_err-body.ensures.1
     (λ x us e. look_at h.is (take_at h.is keeps_free (next c.args.at words (stops e)))) d
 
 pub conditions::else_part-returns-in_err-expect-2-clause-answer : goal.conditions::else_part-returns-in_err-expect-2-clause-answer
 conditions::else_part-returns-in_err-expect-2-clause-answer t c words sp =
-    let h = key_stands sp c.args.at kinds.Else tt (c.is.ensures.value.0 (st.not_false _ c.if-not-is.false)) in
+    let h = key_stands sp c.args.at kinds.Else tt (c.is.ensures.value.0 c.if-not-is.false) in
     let body = c.in_ok-body.body in
     let d = at_counts block_view r.block _ _ (c.args.at + 1) words (Ok body) c.deeper.ensures.counts (c.in_ok-body.ensures.answer words sp) in
-    faulted _ c.args.at words faults.Unexpected body.at (kind_at c.args.source.now.tokens.now body.at ≡ Some kinds.End → ⊥) c.in_err-expect.field-0.0 c.from_residual.result c.from_residual.ensures.1 c.in_err-expect.ensures.err
+    faulted _ c.args.at words faults.Unexpected body.at (kind_at c.args.source.now.tokens.now body.at ≡ Some kinds.End → ⊥) c.in_err-expect-2.field-0.0 c.from_residual-in_err-expect-2.result c.from_residual-in_err-expect-2.ensures.1 c.in_err-expect-2.ensures.err
     (λ none. look_at h.is (take_at h.is keeps_free (next c.args.at words (thens d (not_there (no_key sp body.at kinds.End (key w.end_) refl none))))))
 
 pub conditions::else_part-returns-clause-answer : goal.conditions::else_part-returns-clause-answer
 conditions::else_part-returns-clause-answer t c words sp =
-    let h = key_stands sp c.args.at kinds.Else tt (c.is.ensures.value.0 (st.not_false _ c.if-not-is.false)) in
+    let h = key_stands sp c.args.at kinds.Else tt (c.is.ensures.value.0 c.if-not-is.false) in
     let body = c.in_ok-body.body in
     let d = at_counts block_view r.block _ _ (c.args.at + 1) words (Ok body) c.deeper.ensures.counts (c.in_ok-body.ensures.answer words sp) in
-    let e = key_stands sp body.at kinds.End tt c.in_ok-expect.ensures.there in
-    look_at h.is (take_at h.is keeps_free (next c.args.at words (thens d (expect_at e.is keeps_free (ended body.at _ words refl (sym c.in_ok-expect.ensures.next))))))
+    let e = key_stands sp body.at kinds.End tt c.in_ok-expect-2.ensures.there in
+    look_at h.is (take_at h.is keeps_free (next c.args.at words (thens d (expect_at e.is keeps_free (ended body.at _ words refl (sym c.in_ok-expect-2.ensures.next))))))
 
 pub conditions::else_part-returns-clause-moves : goal.conditions::else_part-returns-clause-moves
 conditions::else_part-returns-clause-moves t c = record {
@@ -202,7 +202,7 @@ pub conditions::if_statement-returns-clause-answer : goal.conditions::if_stateme
 conditions::if_statement-returns-clause-answer t c words sp =
     let h = key_stands sp c.args.at kinds.If tt c.requires.here in
     look_at h.is (take_at h.is (keeps_deep _ (omega (arith, c.in_ok-may_nest.ensures.ok))) (next c.args.at words
-    (thens (c.arms.invariant.so_far words sp _ (c.in_ok-last.ensures.answer words sp)) (gave (st.whole_if _ _ c.arms.arms.items c.in_ok-last.last.node (h.line ∙ sym c.line_at-line.ensures))))))
+    (thens (c.arms.invariant.so_far words sp _ (c.in_ok-last.ensures.answer words sp)) (gave (st.if_is _ _ c.from_vec.result c.arms.arms.items c.in_ok-last.last.node (h.line ∙ sym c.line_at-line.ensures) c.from_vec.ensures)))))
 
 -- ---- blocks
 
@@ -224,60 +224,78 @@ pub statements::block-statements-init : goal.statements::block-statements-init
 statements::block-statements-init t c = record {
   forth = search rules;
   within = search rules;
-  high = ?;
+  high = st.no_stats_high _ c.new-stats.ensures.items;
   low = search rules;
   fits = search rules;
   depth = refl;
-  so_far = λ words sp o d. ?;
+  so_far = λ words sp o d. st.no_stats_yet _ o c.new-stats.ensures.items d;
 }
 
 pub statements::block-statements-preserved : goal.statements::block-statements-preserved
 statements::block-statements-preserved t c = record {
   forth = search rules;
   within = search rules;
-  high = ?;
+  high = st.longer_high _ c.statements.stats.items c.in_ok-read.read.node _ _ _ c.in_ok-push.ensures.items c.max-height.ensures c.statements.invariant.high c.in_ok-read.ensures.moves.high;
   low = search rules;
   fits = search rules;
   depth = search rules;
-  so_far = λ words sp o d. ?;
+  so_far = λ words sp o d.
+    let l = c.statements in
+    let s = c.in_ok-read.read.node in
+    let b = by_kind.block_begins (counts l.inner) _ _ _ (word_for sp l.end) (sym c.begins_statement.ensures.value ∙ c.statements-test.true) in
+    let same = c.declared-inner.ensures.counts (stat_view s) (sym c.locals_of.ensures) in
+    let e = subst (λ (x : a.Counts). r.Reads limits r.a_block (r.program (r.block x)) (drop c.behind_semicolon-end.result words) o) same d in
+    st.longer_stats _ l.stats.items s o c.in_ok-push.ensures.items
+    (l.invariant.so_far words sp _ (look_as b (thens (c.in_ok-read.ensures.answer words sp) (thens (c.behind_semicolon-end.ensures.read words sp) (given o e)))));
 }
 
 pub statements::block-returns-then-not-begins_last_statement-clause-answer : goal.statements::block-returns-then-not-begins_last_statement-clause-answer
-statements::block-returns-then-not-begins_last_statement-clause-answer t c words sp = ?
+statements::block-returns-then-not-begins_last_statement-clause-answer t c words sp =
+    let l = c.statements in
+    let b = by_kind.block_ends (counts l.inner) _ _ _ (word_for sp l.end) (sym c.begins_statement.ensures.value ∙ c.statements-test.false) (sym c.begins_last_statement.ensures.value ∙ c.if-not-begins_last_statement.true) in
+    st.block_is _ l.stats.items c.from_vec.ensures (l.invariant.so_far words sp _ (look_as b gives))
 
 pub statements::block-returns-clause-moves : goal.statements::block-returns-clause-moves
 statements::block-returns-clause-moves t c = record {
   forth = search rules;
   within = search rules;
-  high = ?;
+  high = st.block_high _ _ c.statements.stats.items c.in_ok-last.last.node _ _ _ c.from_vec-2.ensures c.in_ok-push-2.ensures.items c.max.ensures c.statements.invariant.high c.in_ok-last.ensures.moves.high;
   low = search rules;
 }
 
 pub statements::block-returns-clause-answer : goal.statements::block-returns-clause-answer
-statements::block-returns-clause-answer t c words sp = ?
+statements::block-returns-clause-answer t c words sp =
+    let l = c.statements in
+    let b = by_kind.block_lasts (counts l.inner) _ _ _ (word_for sp l.end) (sym c.begins_last_statement.ensures.value ∙ c.if-not-begins_last_statement.false) in
+    st.block_with _ _ l.stats.items c.in_ok-last.last.node c.from_vec-2.ensures c.in_ok-push-2.ensures.items
+    (l.invariant.so_far words sp _ (look_as b (thens (c.in_ok-last.ensures.answer words sp) (thens (c.behind_semicolon.ensures.read words sp) gives))))
 
 pub conditions::if_statement-arms-init : goal.conditions::if_statement-arms-init
 conditions::if_statement-arms-init t c = record {
   forth = search rules;
   within = search rules;
-  high = ?;
+  high = st.first_arm_high _ _ c.in_ok-first.first.node _ c.in_ok-push.ensures.items c.new-arms.ensures.items c.in_ok-first.ensures.moves.high;
   low = search rules;
-  so_far = λ words sp o d. ?;
+  so_far = λ words sp o d. st.first_arm _ _ c.in_ok-first.first.node o c.in_ok-push.ensures.items c.new-arms.ensures.items (c.in_ok-first.ensures.answer words sp o d);
 }
 
 pub conditions::if_statement-arms-preserved : goal.conditions::if_statement-arms-preserved
 conditions::if_statement-arms-preserved t c = record {
   forth = search rules;
   within = search rules;
-  high = ?;
+  high = st.longer_arms_high _ c.arms.arms.items c.in_ok-next.next.node _ _ _ c.in_ok-push-2.ensures.items c.max-height.ensures c.arms.invariant.high c.in_ok-next.ensures.moves.high;
   low = search rules;
-  so_far = λ words sp o d. ?;
+  so_far = λ words sp o d.
+    let l = c.arms in
+    let i = key_stands sp l.end kinds.ElseIf tt (c.is.ensures.value.0 c.arms-test.true) in
+    st.longer_arms _ l.arms.items c.in_ok-next.next.node o c.in_ok-push-2.ensures.items
+    (l.invariant.so_far words sp _ (look_at i.is (take_at i.is keeps_free (next l.end words (just (c.in_ok-next.ensures.answer words sp o d))))));
 }
 
 pub conditions::if_statement-returns-clause-moves : goal.conditions::if_statement-returns-clause-moves
 conditions::if_statement-returns-clause-moves t c = record {
   forth = search rules;
   within = search rules;
-  high = ?;
+  high = st.if_high _ _ _ _ _ c.arms.arms.items c.in_ok-last.last.node c.from_vec.ensures c.max.ensures c.arms.invariant.high c.in_ok-last.ensures.moves.high;
   low = search rules;
 }
