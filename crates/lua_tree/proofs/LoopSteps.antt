@@ -14,8 +14,8 @@ use Rattle.lua_tree.specs.Tree as t
 use Rattle.lua_tree.specs.Tree.{Bytes}
 use Rattle.lua_tree.specs.Words as w
 use Rattle.lua_tree.specs.Words.{Word, Key, key, Spot, Tok, tok, word_of, spot_of}
-use Rattle.lua_tree.specs.Attributes.{locals, nodes, Counts, height, most_block, most_exprs, most_stat}
-use Rattle.lua_tree.specs.Reading.{Sort, Value, Rule, Prog, give, take, look, expect, expect_name, then, Fault, Needs, free, deep, many, Answer, got, stuck, unexpected, over, Reads, gives, program, an_expr, a_block, a_stat, stat as stat_rule, expr, exprs, block, in_loop, loop_block, for_rest, for_rest_of, num_for_rest, num_for_rest_of, more_names}
+use Rattle.lua_tree.specs.Attributes.{declared, locals, nodes, Counts, height, most_block, most_exprs, most_stat}
+use Rattle.lua_tree.specs.Reading.{Sort, Value, Rule, Prog, give, take, look, expect, expect_name, then, Fault, Needs, free, deep, many, Answer, got, stuck, unexpected, over, Reads, gives, program, an_expr, a_block, a_stat, some_names, stat as stat_rule, expr, exprs, block, in_loop, loop_block, for_rest, for_rest_of, num_for_rest, num_for_rest_of, more_names}
 use Rattle.lua_tree.specs.Spelled.{Spelled, kind_at}
 use Rattle.lua_tree.specs.View.{block_view, expr_view, exprs_view, num_for_of, stat_view}
 use Rattle.lua_tree.specs.Answer.{limits, as_part, block_tall, counts, expr_tall, exprs_tall, line_of, NamedAt, stat_tall, step_tall}
@@ -166,3 +166,30 @@ pub one_step : {bytes : List ℕ} {ts : List Token} {words : List Tok} (sp : Spe
     → Reads limits a_stat (program (num_for_rest l x a b c)) (drop at words) r
 one_step {words = words} sp l x a b c at r is d =
     let h = key_stands sp at kinds.Comma tt is in look_at h.is (take_at h.is keeps_free (next at words d))
+
+-- a loop's rest, where its line is the same
+pub at_line : {l m : ℕ} (x : Bytes) (c : Counts) {ts : List Tok} {r : Answer t.Stat} → m ≡ l → Reads limits a_stat (program (for_rest l x c)) ts r → Reads limits a_stat (program (for_rest m x c)) ts r
+at_line x c {ts = ts} {r = r} e d = subst (λ (k : ℕ). Reads limits a_stat (program (for_rest k x c)) ts r) (sym e) d
+
+-- names behind so many locals
+pub at_more : {m n : ℕ} {ts : List Tok} {r : Answer (List Bytes)} → m ≡ n → Reads limits some_names (program (more_names m)) ts r → Reads limits some_names (program (more_names n)) ts r
+at_more {ts = ts} {r = r} e d = subst (λ (k : ℕ). Reads limits some_names (program (more_names k)) ts r) e d
+
+-- the block of a loop that has so many names
+pub so_many : {m n : ℕ} {c : Counts} {ts : List Tok} {r : Answer t.Block} → m ≡ n → Reads limits a_block (program (loop_block m c)) ts r → Reads limits a_block (program (loop_block n c)) ts r
+so_many {c = c} {ts = ts} {r = r} e d = subst (λ (k : ℕ). Reads limits a_block (program (loop_block k c)) ts r) e d
+
+-- a `for` declares nothing behind itself
+none_for : (l : ℕ) (x : Bytes) (a b : t.Expr) (o : Option t.Expr) (c : t.Block) → declared (num_for_of x a b o c l) ≡ 0
+none_for l x a b None c = refl
+none_for l x a b (Some e) c = refl
+
+pub none_declared : (l : ℕ) (x : Bytes) (a b : Expr) (o : Option Expr) (c : Block) → declared (stat_view (record { line = l; what = stats.NumFor x a b o c })) ≡ 0
+none_declared l x a b o c = ap declared (view_num_for l x a b o c) ∙ none_for l x (expr_view a) (expr_view b) (option_map expr_view o) (block_view c)
+
+-- what follows a step, and the loop that it stands in
+abbrev pub after_step : Counts → Option Expr → Prog a_block
+after_step c o = program (loop_block 1 c)
+
+abbrev pub put_step : ℕ → Bytes → t.Expr → t.Expr → Option Expr → t.Block → t.Stat
+put_step l x a b o body = num_for_of x a b (option_map expr_view o) body l

@@ -467,3 +467,55 @@ suffixes_end sp k c a at none = look_as (no_suffix k c a _ _ _ (word_for sp at) 
 pub one_more_suffix : {q : Prog an_expr} {ts : List Tok} (r : Answer t.Expr) → Reads limits an_expr q ts (as_part (λ whole. whole) r) → Reads limits an_expr q ts r
 one_more_suffix (got a vs) d = d
 one_more_suffix (stuck x vs) d = d
+
+-- ---- nodes that were made, as trees
+
+pub same_paren : (l m : ℕ) (b : Box Expr Global) (e : Expr) → l ≡ m → b.value ≡ e → expr_view (record { line = l; what = what.Paren b }) ≡ t.paren m (expr_view e)
+same_paren l m b e i v = view_paren l b ∙ (ap (λ (k : ℕ). t.paren k (expr_view b.value)) i ∙ ap (λ (x : Expr). t.paren m (expr_view x)) v)
+
+pub same_index : (l m : ℕ) (a b : Box Expr Global) (d e : Expr) → l ≡ m → a.value ≡ d → b.value ≡ e → expr_view (record { line = l; what = what.Index a b }) ≡ t.index m (expr_view d) (expr_view e)
+same_index l m a b d e i v u =
+    view_index l a b ∙ (ap (λ (k : ℕ). t.index k (expr_view a.value) (expr_view b.value)) i ∙ (ap (λ (x : Expr). t.index m (expr_view x) (expr_view b.value)) v ∙ ap (λ (x : Expr). t.index m (expr_view d) (expr_view x)) u))
+
+pub same_call : (l m : ℕ) (a : Box Expr Global) (d : Expr) (es : List Expr) → l ≡ m → a.value ≡ d → expr_view (record { line = l; what = what.Call a es }) ≡ t.call m (expr_view d) (exprs_view es)
+same_call l m a d es i v = view_call l a es ∙ (ap (λ (k : ℕ). t.call k (expr_view a.value) (exprs_view es)) i ∙ ap (λ (x : Expr). t.call m (expr_view x) (exprs_view es)) v)
+
+pub same_method : (l m : ℕ) (a : Box Expr Global) (d : Expr) (x : List ℕ) (es : List Expr) → l ≡ m → a.value ≡ d → expr_view (record { line = l; what = what.Method a x es }) ≡ t.method m (expr_view d) x (exprs_view es)
+same_method l m a d x es i v = view_method l a x es ∙ (ap (λ (k : ℕ). t.method k (expr_view a.value) x (exprs_view es)) i ∙ ap (λ (y : Expr). t.method m (expr_view y) x (exprs_view es)) v)
+
+pub same_table : (l m : ℕ) (fs : List Field) (es : List Expr) → m ≡ l → es ≡ record { line = m; what = what.Table fs } ∷ []
+    → ◌≡◌ {A = Value an_args} (l, t.expr_and (t.table l (fields_view fs)) t.no_exprs) (l, exprs_view es)
+same_table l m fs es i s =
+    ap (λ (k : ℕ). (l, t.expr_and (t.table k (fields_view fs)) t.no_exprs)) (sym i) ∙ (ap (λ (y : t.Expr). (l, t.expr_and y t.no_exprs)) (sym (view_braces m fs)) ∙ ap (λ (ys : List Expr). (l, exprs_view ys)) (sym s))
+
+-- ')' and what is behind it
+pub closed : {bytes : List ℕ} {ts : List Token} {words : List Tok} (sp : Spelled bytes 1 ts words) {s : Sort} {p : Prog s} (at later : ℕ) (r : Answer (Value s)) → kind_at ts at ≡ Some kinds.CloseParen → later ≡ at + 1
+    → Reads limits s p (drop later words) r → Reads limits s (expect w.close_paren free (λ s'. p)) (drop at words) r
+closed {words = words} sp at later r is behind d = let h = key_stands sp at kinds.CloseParen tt is in expect_at h.is keeps_free (moved at later words behind d)
+
+-- none of the tokens that open arguments
+pub opens_none : (o : Option Kind) → (o ≡ Some kinds.OpenParen → ⊥) → (o ≡ Some kinds.OpenBrace → ⊥) → (o ≡ Some kinds.Str → ⊥) → opens_arguments o ≡ false
+opens_none None p b s = refl
+opens_none (Some kinds.OpenParen) p b s = absurd (p refl)
+opens_none (Some kinds.OpenBrace) p b s = absurd (b refl)
+opens_none (Some kinds.Str) p b s = absurd (s refl)
+opens_none (Some k) p b s = refl
+
+-- an empty list of arguments
+pub no_args : {l : ℕ} {ts us : List Tok} {p : Prog an_args} (es : List Expr) → es ≡ [] → Reads limits an_args p ts (got (l, t.no_exprs) us) → Reads limits an_args p ts (got (l, exprs_view es) us)
+no_args {l = l} {ts = ts} {us = us} {p = p} es e d = subst (λ (xs : List Expr). Reads limits an_args p ts (got (l, exprs_view xs) us)) (sym e) d
+
+-- a call isn't too deep
+pub call_low : (k : Place) (c : Counts) (a : t.Expr) (scope : Scope) (n : ℕ) → counts scope ≡ held (unfinished k a_call) c → n ≡ height a → scope.depth + 1 + n ≤ 200 → suc (held (unfinished k a_call) c nodes) + height a ≤ 200
+call_low k c a scope n e h low = let same = ap (λ (j : Counts). j nodes) e in omega (arith, same, h, low)
+
+-- what follows a part of a prefix expression, and that it is read as it is
+abbrev pub after : Place → Counts → Expr → Prog an_expr
+after k c e = program (suffixes k c (expr_view e))
+
+abbrev pub put : Expr → t.Expr → t.Expr
+put e whole = whole
+
+-- what the token that opens a call's arguments makes unavoidable
+abbrev pub call_needs : Place → Counts → t.Expr → ℕ
+call_needs k c a = suc (held (unfinished k a_call) c nodes) + height a

@@ -54,6 +54,7 @@ pub(crate) fn local_variables(source: &Source, at: usize, scope: Scope) -> Resul
     requires fits { Fits scope }
     requires some { at < length source.now.tokens.now }
     requires here { kind_at source.now.tokens.now at ≡ Some Kind.Local }
+    requires plain { (kind_at source.now.tokens.now (at + 1) ≡ Some Kind.Function) → ⊥ }
     ensures moves { IfOk result (Moves source.now.tokens.now at scope.depth stat_tall) }
     ensures room { IfOk result (λ read. scope.locals + declares read.node ≤ 200) }
     ensures answer { OfWords source.now

@@ -21,6 +21,14 @@ use Rattle.lua_tree.proofs.Lists as lists
 use Rattle.lua_tree.proofs.KindWords as by_kind
 use Rattle.lua_tree.proofs.KindWords.{word_for}
 use Rattle.lua_tree.proofs.StatementSteps as st
+use Rattle.lua_tree.proofs.SuffixSteps as sx
+use Rattle.lua_tree.proofs.LoopSteps as lp
+use Rattle.lua_tree.proofs.TargetSteps as tg
+use Rattle.lua_tree.specs.Answer.{args_view, block_tall, declares, expr_tall, exprs_tall, NoLocalAt, place_of}
+use Rattle.lua_tree.specs.Begins.{begins_suffix, opens_arguments, shape_view}
+use Rattle.lua_tree.specs.View.{fields_view}
+use Rattle.lua_tree.specs.declared.tree.Expr as expr_type
+use Rattle.lua_tree.specs.declared.tree.Expr.{Expr}
 use Rattle.lua_tree.proofs.+grammar.Goals as goal
 
 -- ---- statements
@@ -299,3 +307,602 @@ conditions::if_statement-returns-clause-moves t c = record {
   high = st.if_high _ _ _ _ _ c.arms.arms.items c.in_ok-last.last.node c.from_vec.ensures c.max.ensures c.arms.invariant.high c.in_ok-last.ensures.moves.high;
   low = search rules;
 }
+
+-- ---- suffixes
+
+pub suffixes::prefix_expression-returns-clause-answer : goal.suffixes::prefix_expression-returns-clause-answer
+suffixes::prefix_expression-returns-clause-answer t c words sp =
+    sx.behind_part (r.program (r.prefix (place_of c.args.position) (counts c.args.scope))) (λ (e : Expr). r.program (r.suffixes (place_of c.args.position) (counts c.args.scope) (expr_view e))) expr_view c.args.at words c.in_ok-base.base c.suffixes.result
+    (c.in_ok-base.ensures.answer words sp) (c.suffixes.ensures.answer words sp)
+
+pub suffixes::base_expression-returns-else-is-clause-answer : goal.suffixes::base_expression-returns-else-is-clause-answer
+suffixes::base_expression-returns-else-is-clause-answer t c words sp =
+    sx.name_parts c.args.source.now sp (place_of c.args.position) c.args.scope c.args.at c.name.result (λ e. false≢true (sym c.if-is.false ∙ c.is.ensures.value.1 e)) c.name.ensures.ok c.name.ensures.next c.name.ensures.err c.name.ensures.moves
+
+pub suffixes::suffixes-returns-in_err-base-clause-answer : goal.suffixes::suffixes-returns-in_err-base-clause-answer
+suffixes::suffixes-returns-in_err-base-clause-answer t c words sp =
+    let base = c.suffixes.base in
+    stopped (λ y. y) expr_view base.at c.args.first.at words c.in_err-base.field-0.0 c.from_residual.result c.from_residual.ensures.1
+    (λ x us e. c.suffixes.invariant.so_far words sp (r.stuck x us) e)
+    (sx.stopped_part (r.program (r.suffixes (place_of c.args.position) (counts c.args.scope) (expr_view base.node))) (sx.after (place_of c.args.position) (counts c.args.scope)) sx.put (λ y. y) base.at words c.in_err-base.field-0.0 (c.in_err-base.ensures.answer words sp))
+
+pub suffixes::suffixes-suffixes-preserved : goal.suffixes::suffixes-suffixes-preserved
+suffixes::suffixes-suffixes-preserved t c =
+    let m = c.in_ok-base.ensures.moves in
+    record {
+      behind = record { some = omega (arith, m.forth); within = m.within; high = m.high; low = m.low };
+      forth = omega (arith, m.forth, c.suffixes.invariant.forth);
+      so_far = λ words sp o d. c.suffixes.invariant.so_far words sp o (sx.one_more_suffix o (c.in_ok-base.ensures.answer words sp o d));
+    }
+
+pub suffixes::suffixes-returns-clause-answer : goal.suffixes::suffixes-returns-clause-answer
+suffixes::suffixes-returns-clause-answer t c words sp =
+    let base = c.suffixes.base in
+    c.suffixes.invariant.so_far words sp (r.got (expr_view base.node) (drop base.at words))
+    (sx.suffixes_end sp (place_of c.args.position) (counts c.args.scope) (expr_view base.node) base.at (sym c.goes_on.ensures.value ∙ c.suffixes-test.false))
+
+pub suffixes::parenthesized-returns-in_err-may_nest-clause-answer : goal.suffixes::parenthesized-returns-in_err-may_nest-clause-answer
+suffixes::parenthesized-returns-in_err-may_nest-clause-answer t c words sp =
+    let outer = sx.held_counts (counts c.args.scope) c.held-outer.ensures.counts c.holds_parentheses.ensures in
+    part_faulted (sx.after (place_of c.args.position) (counts c.args.scope)) sx.put c.args.at words faults.TooDeep c.args.at (200 < c.held-outer.result.depth + 2) c.in_err-may_nest.field-0.0 c.from_residual.result c.from_residual.ensures.1 c.in_err-may_nest.ensures.err
+    (λ over. sx.paren_deep sp (place_of c.args.position) (counts c.args.scope) c.args.at c.requires.here (omega (arith, over, ap (λ (k : a.Counts). k a.nodes) outer)))
+
+pub suffixes::parenthesized-returns-in_err-inner-clause-answer : goal.suffixes::parenthesized-returns-in_err-inner-clause-answer
+suffixes::parenthesized-returns-in_err-inner-clause-answer t c words sp =
+    let outer = sx.held_counts (counts c.args.scope) c.held-outer.ensures.counts c.holds_parentheses.ensures in
+    let d = at_counts expr_view (r.expr 0) _ _ (c.args.at + 1) words (Err c.in_err-inner.field-0.0) (c.deeper.ensures.counts ∙ ap r.down outer) (c.in_err-inner.ensures.answer words sp) in
+    part_stopped expr_view (sx.after (place_of c.args.position) (counts c.args.scope)) sx.put (c.args.at + 1) c.args.at words c.in_err-inner.field-0.0 c.from_residual-in_err-inner.result c.from_residual-in_err-inner.ensures.1
+    (λ x us e. sx.paren_opens sp (place_of c.args.position) (counts c.args.scope) c.args.at _ c.requires.here (omega (arith, c.in_ok-may_nest.ensures.ok, ap (λ (k : a.Counts). k a.nodes) outer)) (stops e)) d
+
+pub suffixes::parenthesized-returns-in_err-at-clause-answer : goal.suffixes::parenthesized-returns-in_err-at-clause-answer
+suffixes::parenthesized-returns-in_err-at-clause-answer t c words sp =
+    let outer = sx.held_counts (counts c.args.scope) c.held-outer.ensures.counts c.holds_parentheses.ensures in
+    let inner = c.in_ok-inner.inner in
+    let d = at_counts expr_view (r.expr 0) _ _ (c.args.at + 1) words (Ok inner) (c.deeper.ensures.counts ∙ ap r.down outer) (c.in_ok-inner.ensures.answer words sp) in
+    part_faulted (sx.after (place_of c.args.position) (counts c.args.scope)) sx.put c.args.at words faults.Unexpected inner.at (kind_at c.args.source.now.tokens.now inner.at ≡ Some kinds.CloseParen → ⊥) c.in_err-at.field-0.0 c.from_residual-in_err-at.result c.from_residual-in_err-at.ensures.1 c.in_err-at.ensures.err
+    (λ none. sx.paren_opens sp (place_of c.args.position) (counts c.args.scope) c.args.at _ c.requires.here (omega (arith, c.in_ok-may_nest.ensures.ok, ap (λ (k : a.Counts). k a.nodes) outer))
+    (thens d (not_there (no_key sp inner.at kinds.CloseParen (key w.close_paren) refl none))))
+
+pub suffixes::parenthesized-returns-clause-answer : goal.suffixes::parenthesized-returns-clause-answer
+suffixes::parenthesized-returns-clause-answer t c words sp o more =
+    let outer = sx.held_counts (counts c.args.scope) c.held-outer.ensures.counts c.holds_parentheses.ensures in
+    let inner = c.in_ok-inner.inner in
+    let d = at_counts expr_view (r.expr 0) _ _ (c.args.at + 1) words (Ok inner) (c.deeper.ensures.counts ∙ ap r.down outer) (c.in_ok-inner.ensures.answer words sp) in
+    sx.paren_opens sp (place_of c.args.position) (counts c.args.scope) c.args.at _ c.requires.here (omega (arith, c.in_ok-may_nest.ensures.ok, ap (λ (k : a.Counts). k a.nodes) outer))
+    (thens d (sx.paren_closes sp (place_of c.args.position) (counts c.args.scope) _ inner.at _ (expr_view inner.node) _ o c.in_ok-at.ensures.there (sx.same_paren _ _ _ _ c.line_at-line.ensures c.in_ok-inner-2.ensures.ok) c.in_ok-at.ensures.next more))
+
+pub suffixes::parenthesized-returns-clause-moves : goal.suffixes::parenthesized-returns-clause-moves
+suffixes::parenthesized-returns-clause-moves t c = record {
+  forth = omega (arith, c.in_ok-inner.ensures.moves.forth, c.in_ok-at.ensures.next);
+  within = omega (arith, c.in_ok-at.ensures.next, c.in_ok-at.ensures.within);
+  high = sx.high_paren _ _ _ _ c.in_ok-inner-2.ensures.ok c.in_ok-inner.ensures.moves.high;
+  low = omega (arith, c.in_ok-inner.ensures.moves.low, c.deeper.ensures.depth, c.held-outer.ensures.above);
+}
+
+pub suffixes::suffix-returns-in-Some-OpenBracket-clause-answer : goal.suffixes::suffix-returns-in-Some-OpenBracket-clause-answer
+suffixes::suffix-returns-in-Some-OpenBracket-clause-answer t c words sp = c.index.ensures.answer (place_of c.args.position) words sp
+
+pub suffixes::suffix-returns-in-Some-Dot-clause-answer : goal.suffixes::suffix-returns-in-Some-Dot-clause-answer
+suffixes::suffix-returns-in-Some-Dot-clause-answer t c words sp =
+    sx.member_parts c.args.source.now sp (place_of c.args.position) c.args.scope c.args.base c.member.result (sym c.kind_at.ensures.value ∙ (c.in-Some-Dot.is ∙ ap Some c.in-Some-Dot.field-0-is)) c.requires.behind.high c.member.ensures.ok c.member.ensures.next c.member.ensures.err c.member.ensures.moves
+
+pub suffixes::index-returns-in_err-may_nest-clause-answer : goal.suffixes::index-returns-in_err-may_nest-clause-answer
+suffixes::index-returns-in_err-may_nest-clause-answer t c k words sp =
+    part_faulted (sx.after k (counts c.args.scope)) sx.put c.args.base.at words faults.TooDeep c.args.base.at (200 < c.args.scope.depth + 1 + c.args.base.height) c.in_err-may_nest.field-0.0 c.from_residual.result c.from_residual.ensures.1 c.in_err-may_nest.ensures.err
+    (λ over. sx.bracket_deep sp k (counts c.args.scope) (expr_view c.args.base.node) c.args.base.at c.requires.here (omega (arith, over, c.requires.behind.high)))
+
+pub suffixes::index-returns-in_err-key-clause-answer : goal.suffixes::index-returns-in_err-key-clause-answer
+suffixes::index-returns-in_err-key-clause-answer t c k words sp =
+    let d = at_counts expr_view (r.expr 0) _ _ (c.args.base.at + 1) words (Err c.in_err-key.field-0.0) c.deeper.ensures.counts (c.in_err-key.ensures.answer words sp) in
+    part_stopped expr_view (sx.after k (counts c.args.scope)) sx.put (c.args.base.at + 1) c.args.base.at words c.in_err-key.field-0.0 c.from_residual-in_err-key.result c.from_residual-in_err-key.ensures.1
+    (λ x us e. sx.bracket_opens sp k (counts c.args.scope) (expr_view c.args.base.node) c.args.base.at _ c.requires.here (omega (arith, c.in_ok-may_nest.ensures.ok, c.requires.behind.high)) (stops e)) d
+
+pub suffixes::index-returns-in_err-at-clause-answer : goal.suffixes::index-returns-in_err-at-clause-answer
+suffixes::index-returns-in_err-at-clause-answer t c k words sp =
+    let inner = c.in_ok-key.key in
+    let d = at_counts expr_view (r.expr 0) _ _ (c.args.base.at + 1) words (Ok inner) c.deeper.ensures.counts (c.in_ok-key.ensures.answer words sp) in
+    part_faulted (sx.after k (counts c.args.scope)) sx.put c.args.base.at words faults.Unexpected inner.at (kind_at c.args.source.now.tokens.now inner.at ≡ Some kinds.CloseBracket → ⊥) c.in_err-at.field-0.0 c.from_residual-in_err-at.result c.from_residual-in_err-at.ensures.1 c.in_err-at.ensures.err
+    (λ none. sx.bracket_opens sp k (counts c.args.scope) (expr_view c.args.base.node) c.args.base.at _ c.requires.here (omega (arith, c.in_ok-may_nest.ensures.ok, c.requires.behind.high))
+    (thens d (not_there (no_key sp inner.at kinds.CloseBracket (key w.close_bracket) refl none))))
+
+pub suffixes::index-returns-clause-answer : goal.suffixes::index-returns-clause-answer
+suffixes::index-returns-clause-answer t c k words sp o more =
+    let inner = c.in_ok-key.key in
+    let d = at_counts expr_view (r.expr 0) _ _ (c.args.base.at + 1) words (Ok inner) c.deeper.ensures.counts (c.in_ok-key.ensures.answer words sp) in
+    sx.bracket_opens sp k (counts c.args.scope) (expr_view c.args.base.node) c.args.base.at _ c.requires.here (omega (arith, c.in_ok-may_nest.ensures.ok, c.requires.behind.high))
+    (thens d (sx.bracket_closes sp k (counts c.args.scope) _ inner.at _ (expr_view c.args.base.node) (expr_view inner.node) _ o c.in_ok-at.ensures.there (sx.same_index _ _ _ _ _ _ c.line_at-line.ensures c.in_ok-base.ensures.ok c.in_ok-key-2.ensures.ok) c.in_ok-at.ensures.next more))
+
+pub suffixes::index-returns-clause-moves : goal.suffixes::index-returns-clause-moves
+suffixes::index-returns-clause-moves t c = record {
+  forth = omega (arith, c.in_ok-key.ensures.moves.forth, c.in_ok-at.ensures.next);
+  within = omega (arith, c.in_ok-at.ensures.next, c.in_ok-at.ensures.within);
+  high = omega (arith, sx.tall_at_index c.line_at-line.result c.in_ok-base.base c.in_ok-key-2.key c.args.base.node c.in_ok-key.key.node c.in_ok-base.ensures.ok c.in_ok-key-2.ensures.ok, c.in_ok-key.ensures.moves.high, c.requires.behind.high);
+  low = omega (arith, c.in_ok-key.ensures.moves.low, c.deeper.ensures.depth, c.in_ok-may_nest.ensures.ok);
+}
+
+pub suffixes::method_call-returns-in_err-may_nest-clause-answer : goal.suffixes::method_call-returns-in_err-may_nest-clause-answer
+suffixes::method_call-returns-in_err-may_nest-clause-answer t c k cs e words sp =
+    part_faulted (sx.after k cs) sx.put c.args.object.at words faults.TooDeep c.args.object.at (200 < c.args.scope.depth + 1 + c.args.object.height) c.in_err-may_nest.field-0.0 c.from_residual.result c.from_residual.ensures.1 c.in_err-may_nest.ensures.err
+    (λ over. sx.colon_deep sp k cs (expr_view c.args.object.node) c.args.object.at c.requires.here (omega (arith, over, c.requires.behind.high, ap (λ (j : a.Counts). j a.nodes) e)))
+
+pub suffixes::method_call-returns-in_err-name-clause-answer : goal.suffixes::method_call-returns-in_err-name-clause-answer
+suffixes::method_call-returns-in_err-name-clause-answer t c k cs e words sp =
+    let at = c.args.object.at in
+    part_faulted (sx.after k cs) sx.put at words faults.Unexpected (at + 1) (kind_at c.args.source.now.tokens.now (at + 1) ≡ Some kinds.Name → ⊥) c.in_err-name.field-0.0 c.from_residual-in_err-name.result c.from_residual-in_err-name.ensures.1 c.in_err-name.ensures.err
+    (λ none. sx.colon_alone sp k cs (expr_view c.args.object.node) at c.requires.here (omega (arith, c.in_ok-may_nest.ensures.ok, c.requires.behind.high, ap (λ (j : a.Counts). j a.nodes) e)) none)
+
+pub suffixes::method_call-returns-in_err-arguments-clause-answer : goal.suffixes::method_call-returns-in_err-arguments-clause-answer
+suffixes::method_call-returns-in_err-arguments-clause-answer t c k cs e words sp =
+    let at = c.args.object.at in
+    let low = sx.call_low k cs (expr_view c.args.object.node) c.args.scope c.args.object.height e c.requires.behind.high c.in_ok-may_nest.ensures.ok in
+    let d = at_counts (args_view c.args.source.now (at + 2)) (r.args (sx.call_needs k cs (expr_view c.args.object.node))) _ _ (at + 2) words (Err c.in_err-arguments.field-0.0) (c.deeper.ensures.counts ∙ ap r.down e) (c.in_err-arguments.ensures.answer (sx.call_needs k cs (expr_view c.args.object.node)) low words sp) in
+    part_stopped (args_view c.args.source.now (at + 2)) (sx.after k cs) sx.put (at + 2) at words c.in_err-arguments.field-0.0 c.from_residual-in_err-arguments.result c.from_residual-in_err-arguments.ensures.1
+    (λ x us f. sx.colon_opens c.args.source.now sp k cs (expr_view c.args.object.node) at c.in_ok-name.name _ c.requires.here low c.in_ok-name.ensures.ok (stops f)) d
+
+pub suffixes::method_call-returns-clause-answer : goal.suffixes::method_call-returns-clause-answer
+suffixes::method_call-returns-clause-answer t c k cs e words sp o more =
+    let at = c.args.object.at in
+    let low = sx.call_low k cs (expr_view c.args.object.node) c.args.scope c.args.object.height e c.requires.behind.high c.in_ok-may_nest.ensures.ok in
+    let d = at_counts (args_view c.args.source.now (at + 2)) (r.args (sx.call_needs k cs (expr_view c.args.object.node))) _ _ (at + 2) words (Ok c.in_ok-arguments.arguments) (c.deeper.ensures.counts ∙ ap r.down e) (c.in_ok-arguments.ensures.answer (sx.call_needs k cs (expr_view c.args.object.node)) low words sp) in
+    sx.colon_opens c.args.source.now sp k cs (expr_view c.args.object.node) at c.in_ok-name.name _ c.requires.here low c.in_ok-name.ensures.ok
+    (thens d (sx.call_closes k cs o (sx.same_method _ _ _ _ _ _ c.line_at.ensures c.in_ok-object.ensures.ok) more))
+
+pub suffixes::method_call-returns-clause-moves : goal.suffixes::method_call-returns-clause-moves
+suffixes::method_call-returns-clause-moves t c = record {
+  forth = omega (arith, c.in_ok-arguments.ensures.moves.forth);
+  within = c.in_ok-arguments.ensures.moves.within;
+  high = omega (arith, sx.tall_at_method c.line_at.result c.in_ok-object.object c.args.object.node c.in_ok-name.name c.in_ok-arguments.arguments.node c.in_ok-object.ensures.ok, c.in_ok-arguments.ensures.moves.high, c.requires.behind.high);
+  low = omega (arith, c.in_ok-arguments.ensures.moves.low, c.deeper.ensures.depth, c.in_ok-may_nest.ensures.ok);
+}
+
+pub suffixes::call-returns-in_err-may_nest-clause-answer : goal.suffixes::call-returns-in_err-may_nest-clause-answer
+suffixes::call-returns-in_err-may_nest-clause-answer t c k cs e words sp =
+    part_faulted (sx.after k cs) sx.put c.args.callee.at words faults.TooDeep c.args.callee.at (200 < c.args.scope.depth + 1 + c.args.callee.height) c.in_err-may_nest.field-0.0 c.from_residual.result c.from_residual.ensures.1 c.in_err-may_nest.ensures.err
+    (λ over. sx.call_deep sp k cs (expr_view c.args.callee.node) c.args.callee.at c.requires.here (omega (arith, over, c.requires.behind.high, ap (λ (j : a.Counts). j a.nodes) e)))
+
+pub suffixes::call-returns-in_err-arguments-clause-answer : goal.suffixes::call-returns-in_err-arguments-clause-answer
+suffixes::call-returns-in_err-arguments-clause-answer t c k cs e words sp =
+    let at = c.args.callee.at in
+    let low = sx.call_low k cs (expr_view c.args.callee.node) c.args.scope c.args.callee.height e c.requires.behind.high c.in_ok-may_nest.ensures.ok in
+    let d = at_counts (args_view c.args.source.now at) (r.args (sx.call_needs k cs (expr_view c.args.callee.node))) _ _ at words (Err c.in_err-arguments.field-0.0) (c.deeper.ensures.counts ∙ ap r.down e) (c.in_err-arguments.ensures.answer (sx.call_needs k cs (expr_view c.args.callee.node)) low words sp) in
+    part_stopped (args_view c.args.source.now at) (sx.after k cs) sx.put at at words c.in_err-arguments.field-0.0 c.from_residual-in_err-arguments.result c.from_residual-in_err-arguments.ensures.1
+    (λ x us f. sx.call_opens sp k cs (expr_view c.args.callee.node) at _ c.requires.here (stops f)) d
+
+pub suffixes::call-returns-clause-answer : goal.suffixes::call-returns-clause-answer
+suffixes::call-returns-clause-answer t c k cs e words sp o more =
+    let at = c.args.callee.at in
+    let low = sx.call_low k cs (expr_view c.args.callee.node) c.args.scope c.args.callee.height e c.requires.behind.high c.in_ok-may_nest.ensures.ok in
+    let d = at_counts (args_view c.args.source.now at) (r.args (sx.call_needs k cs (expr_view c.args.callee.node))) _ _ at words (Ok c.in_ok-arguments.arguments) (c.deeper.ensures.counts ∙ ap r.down e) (c.in_ok-arguments.ensures.answer (sx.call_needs k cs (expr_view c.args.callee.node)) low words sp) in
+    sx.call_opens sp k cs (expr_view c.args.callee.node) at _ c.requires.here
+    (thens d (sx.call_closes k cs o (sx.same_call _ _ _ _ _ c.line_at.ensures c.in_ok-callee.ensures.ok) more))
+
+pub suffixes::call-returns-clause-moves : goal.suffixes::call-returns-clause-moves
+suffixes::call-returns-clause-moves t c = record {
+  forth = omega (arith, c.in_ok-arguments.ensures.moves.forth);
+  within = c.in_ok-arguments.ensures.moves.within;
+  high = omega (arith, sx.tall_at_call c.line_at.result c.in_ok-callee.callee c.args.callee.node c.in_ok-arguments.arguments.node c.in_ok-callee.ensures.ok, c.in_ok-arguments.ensures.moves.high, c.requires.behind.high);
+  low = omega (arith, c.in_ok-arguments.ensures.moves.low, c.deeper.ensures.depth, c.in_ok-may_nest.ensures.ok);
+}
+
+pub suffixes::arguments-returns-in-Some-Str-clause-answer : goal.suffixes::arguments-returns-in-Some-Str-clause-answer
+suffixes::arguments-returns-in-Some-Str-clause-answer t c n low words sp = c.only_string.ensures.answer n low (counts c.args.scope) words sp
+
+pub suffixes::arguments-returns-in_default-clause-answer : goal.suffixes::arguments-returns-in_default-clause-answer
+suffixes::arguments-returns-in_default-clause-answer t c n low words sp =
+    let none : opens_arguments (kind_at c.args.source.now.tokens.now c.args.at) ≡ false = search rules in
+    look_as (sx.no_arguments n (counts c.args.scope) _ _ _ (word_for sp c.args.at) none) r.fails
+
+pub suffixes::listed-returns-then-line_at-clause-answer : goal.suffixes::listed-returns-then-line_at-clause-answer
+suffixes::listed-returns-then-line_at-clause-answer t c n low words sp =
+    sx.listed_ambiguous sp n (counts c.args.scope) c.args.at low c.requires.behind c.requires.here (omega (arith, c.line_at.ensures, c.line_at-2.ensures, c.if-line_at.true))
+
+pub suffixes::listed-returns-then-is-clause-answer : goal.suffixes::listed-returns-then-is-clause-answer
+suffixes::listed-returns-then-is-clause-answer t c n low words sp =
+    sx.no_args c.new.result c.new.ensures (sx.listed_opens c.args.source.now sp c.requires.cut n (counts c.args.scope) c.args.at _ low c.requires.behind c.requires.here (omega (arith, c.line_at.ensures, c.line_at-2.ensures, c.if-line_at.false))
+    (sx.listed_none sp _ (counts c.args.scope) c.args.at (c.is.ensures.value.0 c.if-is.true)))
+
+pub suffixes::listed-returns-in_err-items-clause-answer : goal.suffixes::listed-returns-in_err-items-clause-answer
+suffixes::listed-returns-in_err-items-clause-answer t c n low words sp =
+    stopped exprs_view (args_view c.args.source.now c.args.at) (c.args.at + 1) c.args.at words c.in_err-items.field-0.0 c.from_residual.result c.from_residual.ensures.1
+    (λ x us e. sx.listed_opens c.args.source.now sp c.requires.cut n (counts c.args.scope) c.args.at _ low c.requires.behind c.requires.here (omega (arith, c.line_at.ensures, c.line_at-2.ensures, c.if-line_at.false))
+    (sx.listed_some sp _ (counts c.args.scope) c.args.at _ (λ f. false≢true (sym c.if-is.false ∙ c.is.ensures.value.1 f)) (stops e))) (c.in_err-items.ensures.answer words sp)
+
+pub suffixes::listed-returns-in_err-expect-clause-answer : goal.suffixes::listed-returns-in_err-expect-clause-answer
+suffixes::listed-returns-in_err-expect-clause-answer t c n low words sp =
+    let items = c.in_ok-items.items in
+    faulted (args_view c.args.source.now c.args.at) c.args.at words faults.Unexpected items.at (kind_at c.args.source.now.tokens.now items.at ≡ Some kinds.CloseParen → ⊥) c.in_err-expect.field-0.0 c.from_residual-in_err-expect.result c.from_residual-in_err-expect.ensures.1 c.in_err-expect.ensures.err
+    (λ none. sx.listed_opens c.args.source.now sp c.requires.cut n (counts c.args.scope) c.args.at _ low c.requires.behind c.requires.here (omega (arith, c.line_at.ensures, c.line_at-2.ensures, c.if-line_at.false))
+    (sx.listed_some sp _ (counts c.args.scope) c.args.at _ (λ f. false≢true (sym c.if-is.false ∙ c.is.ensures.value.1 f)) (thens (c.in_ok-items.ensures.answer words sp) (not_there (no_key sp items.at kinds.CloseParen (key w.close_paren) refl none)))))
+
+pub suffixes::listed-returns-clause-answer : goal.suffixes::listed-returns-clause-answer
+suffixes::listed-returns-clause-answer t c n low words sp =
+    let items = c.in_ok-items.items in
+    sx.listed_opens c.args.source.now sp c.requires.cut n (counts c.args.scope) c.args.at _ low c.requires.behind c.requires.here (omega (arith, c.line_at.ensures, c.line_at-2.ensures, c.if-line_at.false))
+    (sx.listed_some sp _ (counts c.args.scope) c.args.at _ (λ f. false≢true (sym c.if-is.false ∙ c.is.ensures.value.1 f)) (thens (c.in_ok-items.ensures.answer words sp)
+    (sx.closed sp items.at _ _ c.in_ok-expect.ensures.there c.in_ok-expect.ensures.next (gave refl))))
+
+pub suffixes::only_table-returns-in_err-fields-clause-answer : goal.suffixes::only_table-returns-in_err-fields-clause-answer
+suffixes::only_table-returns-in_err-fields-clause-answer t c n low words sp =
+    let d = at_counts fields_view r.fields _ _ (c.args.at + 1) words (Err c.in_err-fields.field-0.0) c.deeper.ensures.counts (c.in_err-fields.ensures.answer words sp) in
+    stopped fields_view (args_view c.args.source.now c.args.at) (c.args.at + 1) c.args.at words c.in_err-fields.field-0.0 c.from_residual.result c.from_residual.ensures.1
+    (λ x us e. sx.table_opens c.args.source.now sp c.requires.cut n (counts c.args.scope) c.args.at _ low c.requires.here (stops e)) d
+
+pub suffixes::only_table-returns-clause-answer : goal.suffixes::only_table-returns-clause-answer
+suffixes::only_table-returns-clause-answer t c n low words sp =
+    let fields = c.in_ok-fields.fields in
+    let d = at_counts fields_view r.fields _ _ (c.args.at + 1) words (Ok fields) c.deeper.ensures.counts (c.in_ok-fields.ensures.answer words sp) in
+    sx.table_opens c.args.source.now sp c.requires.cut n (counts c.args.scope) c.args.at _ low c.requires.here (thens d (gave (sx.same_table _ c.line_at.result fields.node c.in_ok-only.field-0 c.line_at.ensures c.in_ok-only.ensures.ok)))
+
+pub suffixes::only_table-returns-clause-moves : goal.suffixes::only_table-returns-clause-moves
+suffixes::only_table-returns-clause-moves t c = record {
+  forth = omega (arith, c.in_ok-fields.ensures.moves.forth);
+  within = c.in_ok-fields.ensures.moves.within;
+  high = sx.high_only_table c.line_at.result _ c.in_ok-fields.fields.node _ c.in_ok-only.ensures.ok c.in_ok-fields.ensures.moves.high;
+  low = omega (arith, c.in_ok-fields.ensures.moves.low, c.deeper.ensures.depth);
+}
+
+-- ---- loops
+
+pub loops::while_statement-returns-in_err-may_nest-clause-answer : goal.loops::while_statement-returns-in_err-may_nest-clause-answer
+loops::while_statement-returns-in_err-may_nest-clause-answer t c words sp =
+    faulted stat_view c.args.at words faults.TooDeep c.args.at (200 < c.args.scope.depth + 1) c.in_err-may_nest.field-0.0 c.from_residual.result c.from_residual.ensures.1 c.in_err-may_nest.ensures.err
+    (λ over. lp.while_deep sp (counts c.args.scope) c.args.at c.requires.here (omega (arith, over)))
+
+pub loops::while_statement-returns-in_err-test-clause-answer : goal.loops::while_statement-returns-in_err-test-clause-answer
+loops::while_statement-returns-in_err-test-clause-answer t c words sp =
+    stopped expr_view stat_view (c.args.at + 1) c.args.at words c.in_err-test.field-0.0 c.from_residual-in_err-test.result c.from_residual-in_err-test.ensures.1
+    (λ x us e. lp.while_opens sp (counts c.args.scope) c.args.at _ c.requires.here (omega (arith, c.in_ok-may_nest.ensures.ok)) (stops e)) (c.in_err-test.ensures.answer words sp)
+
+pub loops::while_statement-returns-in_err-body-clause-answer : goal.loops::while_statement-returns-in_err-body-clause-answer
+loops::while_statement-returns-in_err-body-clause-answer t c words sp =
+    stopped block_view stat_view c.in_ok-test.test.at c.args.at words c.in_err-body.field-0.0 c.from_residual-in_err-body.result c.from_residual-in_err-body.ensures.1
+    (λ x us e. lp.while_opens sp (counts c.args.scope) c.args.at _ c.requires.here (omega (arith, c.in_ok-may_nest.ensures.ok)) (thens (c.in_ok-test.ensures.answer words sp) (stops e))) (c.in_err-body.ensures.answer words sp)
+
+pub loops::while_statement-returns-clause-answer : goal.loops::while_statement-returns-clause-answer
+loops::while_statement-returns-clause-answer t c words sp =
+    lp.while_opens sp (counts c.args.scope) c.args.at _ c.requires.here (omega (arith, c.in_ok-may_nest.ensures.ok)) (thens (c.in_ok-test.ensures.answer words sp) (thens (c.in_ok-body.ensures.answer words sp)
+    (gave (ap (λ l. t.while_loop l (expr_view c.in_ok-test.test.node) (block_view c.in_ok-body.body.node)) (sym c.line_at-line.ensures) ∙ sym (lp.view_while _ _ _)))))
+
+pub loops::while_statement-returns-clause-moves : goal.loops::while_statement-returns-clause-moves
+loops::while_statement-returns-clause-moves t c = record {
+  forth = omega (arith, c.in_ok-test.ensures.moves.forth, c.in_ok-body.ensures.moves.forth);
+  within = c.in_ok-body.ensures.moves.within;
+  high = omega (arith, lp.tall_at_while c.line_at-line.result c.in_ok-test.test.node c.in_ok-body.body.node, c.in_ok-test.ensures.moves.high, c.in_ok-body.ensures.moves.high);
+  low = omega (arith, c.in_ok-test.ensures.moves.low, c.in_ok-body.ensures.moves.low);
+}
+
+pub loops::do_block-returns-in_err-at-clause-answer : goal.loops::do_block-returns-in_err-at-clause-answer
+loops::do_block-returns-in_err-at-clause-answer t c words sp =
+    faulted block_view c.args.at words faults.Unexpected c.args.at (kind_at c.args.source.now.tokens.now c.args.at ≡ Some kinds.Do → ⊥) c.in_err-at.field-0.0 c.from_residual.result c.from_residual.ensures.1 c.in_err-at.ensures.err
+    (λ none. not_there (no_key sp c.args.at kinds.Do (key w.do_) refl none))
+
+pub loops::do_block-returns-in_err-body-clause-answer : goal.loops::do_block-returns-in_err-body-clause-answer
+loops::do_block-returns-in_err-body-clause-answer t c words sp =
+    let d = at_counts block_view r.block _ _ c.in_ok-at.at words (Err c.in_err-body.field-0.0) c.in_loop.ensures.counts (c.in_err-body.ensures.answer words sp) in
+    stopped block_view block_view c.in_ok-at.at c.args.at words c.in_err-body.field-0.0 c.from_residual-in_err-body.result c.from_residual-in_err-body.ensures.1
+    (λ x us e. lp.expected_do sp c.args.at c.in_ok-at.at _ c.in_ok-at.ensures.there c.in_ok-at.ensures.next (stops e)) d
+
+pub loops::do_block-returns-in_err-expect-clause-answer : goal.loops::do_block-returns-in_err-expect-clause-answer
+loops::do_block-returns-in_err-expect-clause-answer t c words sp =
+    let body = c.in_ok-body.body in
+    let d = at_counts block_view r.block _ _ c.in_ok-at.at words (Ok body) c.in_loop.ensures.counts (c.in_ok-body.ensures.answer words sp) in
+    faulted block_view c.args.at words faults.Unexpected body.at (kind_at c.args.source.now.tokens.now body.at ≡ Some kinds.End → ⊥) c.in_err-expect.field-0.0 c.from_residual-in_err-expect.result c.from_residual-in_err-expect.ensures.1 c.in_err-expect.ensures.err
+    (λ none. lp.expected_do sp c.args.at c.in_ok-at.at _ c.in_ok-at.ensures.there c.in_ok-at.ensures.next (thens d (not_there (no_key sp body.at kinds.End (key w.end_) refl none))))
+
+pub loops::do_block-returns-clause-answer : goal.loops::do_block-returns-clause-answer
+loops::do_block-returns-clause-answer t c words sp =
+    let body = c.in_ok-body.body in
+    let d = at_counts block_view r.block _ _ c.in_ok-at.at words (Ok body) c.in_loop.ensures.counts (c.in_ok-body.ensures.answer words sp) in
+    lp.expected_do sp c.args.at c.in_ok-at.at _ c.in_ok-at.ensures.there c.in_ok-at.ensures.next (thens d (lp.expected_end sp body.at _ _ c.in_ok-expect.ensures.there c.in_ok-expect.ensures.next (gave refl)))
+
+pub loops::repeat_statement-returns-in_err-may_nest-clause-answer : goal.loops::repeat_statement-returns-in_err-may_nest-clause-answer
+loops::repeat_statement-returns-in_err-may_nest-clause-answer t c words sp =
+    faulted stat_view c.args.at words faults.TooDeep c.args.at (200 < c.args.scope.depth + 1) c.in_err-may_nest.field-0.0 c.from_residual.result c.from_residual.ensures.1 c.in_err-may_nest.ensures.err
+    (λ over. lp.repeat_deep sp (counts c.args.scope) c.args.at c.requires.here (omega (arith, over)))
+
+pub loops::repeat_statement-returns-in_err-body-clause-answer : goal.loops::repeat_statement-returns-in_err-body-clause-answer
+loops::repeat_statement-returns-in_err-body-clause-answer t c words sp =
+    let d = at_counts block_view r.block _ _ (c.args.at + 1) words (Err c.in_err-body.field-0.0) c.in_loop.ensures.counts (c.in_err-body.ensures.answer words sp) in
+    stopped block_view stat_view (c.args.at + 1) c.args.at words c.in_err-body.field-0.0 c.from_residual-in_err-body.result c.from_residual-in_err-body.ensures.1
+    (λ x us e. lp.repeat_opens sp (counts c.args.scope) c.args.at _ c.requires.here (omega (arith, c.in_ok-may_nest.ensures.ok)) (stops e)) d
+
+pub loops::repeat_statement-returns-in_err-at-clause-answer : goal.loops::repeat_statement-returns-in_err-at-clause-answer
+loops::repeat_statement-returns-in_err-at-clause-answer t c words sp =
+    let body = c.in_ok-body.body in
+    let d = at_counts block_view r.block _ _ (c.args.at + 1) words (Ok body) c.in_loop.ensures.counts (c.in_ok-body.ensures.answer words sp) in
+    faulted stat_view c.args.at words faults.Unexpected body.at (kind_at c.args.source.now.tokens.now body.at ≡ Some kinds.Until → ⊥) c.in_err-at.field-0.0 c.from_residual-in_err-at.result c.from_residual-in_err-at.ensures.1 c.in_err-at.ensures.err
+    (λ none. lp.repeat_opens sp (counts c.args.scope) c.args.at _ c.requires.here (omega (arith, c.in_ok-may_nest.ensures.ok)) (thens d (not_there (no_key sp body.at kinds.Until (key w.until) refl none))))
+
+pub loops::repeat_statement-returns-in_err-test-clause-answer : goal.loops::repeat_statement-returns-in_err-test-clause-answer
+loops::repeat_statement-returns-in_err-test-clause-answer t c words sp =
+    let body = c.in_ok-body.body in
+    let d = at_counts block_view r.block _ _ (c.args.at + 1) words (Ok body) c.in_loop.ensures.counts (c.in_ok-body.ensures.answer words sp) in
+    stopped expr_view stat_view c.in_ok-at.at c.args.at words c.in_err-test.field-0.0 c.from_residual-in_err-test.result c.from_residual-in_err-test.ensures.1
+    (λ x us e. lp.repeat_opens sp (counts c.args.scope) c.args.at _ c.requires.here (omega (arith, c.in_ok-may_nest.ensures.ok)) (thens d (lp.expected sp body.at c.in_ok-at.at _ c.in_ok-at.ensures.there c.in_ok-at.ensures.next (stops e)))) (c.in_err-test.ensures.answer words sp)
+
+pub loops::repeat_statement-returns-clause-answer : goal.loops::repeat_statement-returns-clause-answer
+loops::repeat_statement-returns-clause-answer t c words sp =
+    let body = c.in_ok-body.body in
+    let d = at_counts block_view r.block _ _ (c.args.at + 1) words (Ok body) c.in_loop.ensures.counts (c.in_ok-body.ensures.answer words sp) in
+    lp.repeat_opens sp (counts c.args.scope) c.args.at _ c.requires.here (omega (arith, c.in_ok-may_nest.ensures.ok)) (thens d (lp.expected sp body.at c.in_ok-at.at _ c.in_ok-at.ensures.there c.in_ok-at.ensures.next
+    (thens (c.in_ok-test.ensures.answer words sp) (gave (ap (λ l. t.repeat_loop l (block_view body.node) (expr_view c.in_ok-test.test.node)) (sym c.line_at-line.ensures) ∙ sym (lp.view_repeat _ _ _))))))
+
+pub loops::repeat_statement-returns-clause-moves : goal.loops::repeat_statement-returns-clause-moves
+loops::repeat_statement-returns-clause-moves t c = record {
+  forth = omega (arith, c.in_ok-test.ensures.moves.forth, c.in_ok-body.ensures.moves.forth, c.in_ok-at.ensures.next);
+  within = c.in_ok-test.ensures.moves.within;
+  high = omega (arith, lp.tall_at_repeat c.line_at-line.result c.in_ok-body.body.node c.in_ok-test.test.node, c.in_ok-test.ensures.moves.high, c.in_ok-body.ensures.moves.high);
+  low = omega (arith, c.in_ok-test.ensures.moves.low, c.in_ok-body.ensures.moves.low, c.in_loop.ensures.depth);
+}
+
+pub loops::for_statement-returns-in_err-may_nest-clause-answer : goal.loops::for_statement-returns-in_err-may_nest-clause-answer
+loops::for_statement-returns-in_err-may_nest-clause-answer t c words sp =
+    faulted stat_view c.args.at words faults.TooDeep c.args.at (200 < c.args.scope.depth + 1) c.in_err-may_nest.field-0.0 c.from_residual.result c.from_residual.ensures.1 c.in_err-may_nest.ensures.err
+    (λ over. lp.for_deep sp (counts c.args.scope) c.args.at c.requires.here (omega (arith, over)))
+
+pub loops::for_statement-returns-in_err-name-clause-answer : goal.loops::for_statement-returns-in_err-name-clause-answer
+loops::for_statement-returns-in_err-name-clause-answer t c words sp =
+    stopped (λ y. y) stat_view (c.args.at + 1) c.args.at words c.in_err-name.field-0.0 c.from_residual-in_err-name.result c.from_residual-in_err-name.ensures.1
+    (λ x us e. lp.for_opens sp (counts c.args.scope) c.args.at _ c.requires.here (omega (arith, c.in_ok-may_nest.ensures.ok)) e)
+    (tg.no_local c.args.source.now sp (λ y. y) _ (c.args.at + 1) c.args.scope.locals c.in_err-name.field-0.0 c.in_err-name.ensures.err)
+
+pub loops::for_statement-returns-then-is-clause-answer : goal.loops::for_statement-returns-then-is-clause-answer
+loops::for_statement-returns-then-is-clause-answer t c words sp =
+    onward stat_view (c.args.at + 2) c.args.at words c.numeric_for.result
+    (λ r d. lp.for_opens sp (counts c.args.scope) c.args.at r c.requires.here (omega (arith, c.in_ok-may_nest.ensures.ok))
+    (lp.local_named c.args.source.now sp _ (c.args.at + 1) (c.args.at + 2) c.args.scope.locals c.in_ok-name.name r c.in_ok-name.ensures.ok c.in_ok-name.ensures.room (omega arith) (just (lp.at_line c.in_ok-name.name (counts c.args.scope) (sym c.line_at-line.ensures) d))))
+    (c.numeric_for.ensures.answer words sp)
+
+pub loops::for_statement-returns-else-is-clause-answer : goal.loops::for_statement-returns-else-is-clause-answer
+loops::for_statement-returns-else-is-clause-answer t c words sp =
+    onward stat_view (c.args.at + 2) c.args.at words c.generic_for.result
+    (λ r d. lp.for_opens sp (counts c.args.scope) c.args.at r c.requires.here (omega (arith, c.in_ok-may_nest.ensures.ok))
+    (lp.local_named c.args.source.now sp _ (c.args.at + 1) (c.args.at + 2) c.args.scope.locals c.in_ok-name.name r c.in_ok-name.ensures.ok c.in_ok-name.ensures.room (omega arith) (just (lp.at_line c.in_ok-name.name (counts c.args.scope) (sym c.line_at-line.ensures) d))))
+    (c.generic_for.ensures.answer words sp)
+
+pub loops::numeric_for-returns-in_err-first-clause-answer : goal.loops::numeric_for-returns-in_err-first-clause-answer
+loops::numeric_for-returns-in_err-first-clause-answer t c words sp =
+    stopped expr_view stat_view (c.args.at + 1) c.args.at words c.in_err-first.field-0.0 c.from_residual.result c.from_residual.ensures.1
+    (λ x us e. lp.numeric_opens sp c.args.line c.args.name (counts c.args.scope) c.args.at _ c.requires.here (stops e)) (c.in_err-first.ensures.answer words sp)
+
+pub loops::numeric_for-returns-in_err-at-clause-answer : goal.loops::numeric_for-returns-in_err-at-clause-answer
+loops::numeric_for-returns-in_err-at-clause-answer t c words sp =
+    let first = c.in_ok-first.first in
+    faulted stat_view c.args.at words faults.Unexpected first.at (kind_at c.args.source.now.tokens.now first.at ≡ Some kinds.Comma → ⊥) c.in_err-at.field-0.0 c.from_residual-in_err-at.result c.from_residual-in_err-at.ensures.1 c.in_err-at.ensures.err
+    (λ none. lp.numeric_opens sp c.args.line c.args.name (counts c.args.scope) c.args.at _ c.requires.here (thens (c.in_ok-first.ensures.answer words sp) (not_there (no_key sp first.at kinds.Comma (key w.comma) refl none))))
+
+pub loops::numeric_for-returns-in_err-limit-clause-answer : goal.loops::numeric_for-returns-in_err-limit-clause-answer
+loops::numeric_for-returns-in_err-limit-clause-answer t c words sp =
+    let first = c.in_ok-first.first in
+    stopped expr_view stat_view c.in_ok-at.at c.args.at words c.in_err-limit.field-0.0 c.from_residual-in_err-limit.result c.from_residual-in_err-limit.ensures.1
+    (λ x us e. lp.numeric_opens sp c.args.line c.args.name (counts c.args.scope) c.args.at _ c.requires.here (thens (c.in_ok-first.ensures.answer words sp) (lp.expected_comma sp first.at c.in_ok-at.at _ c.in_ok-at.ensures.there c.in_ok-at.ensures.next (stops e)))) (c.in_err-limit.ensures.answer words sp)
+
+pub loops::numeric_for-returns-in_err-step-clause-answer : goal.loops::numeric_for-returns-in_err-step-clause-answer
+loops::numeric_for-returns-in_err-step-clause-answer t c words sp =
+    let first = c.in_ok-first.first in
+    let limit = c.in_ok-limit.limit in
+    stopped (λ y. y) stat_view limit.at c.args.at words c.in_err-step.field-0.0 c.from_residual-in_err-step.result c.from_residual-in_err-step.ensures.1
+    (λ x us e. lp.numeric_opens sp c.args.line c.args.name (counts c.args.scope) c.args.at _ c.requires.here (thens (c.in_ok-first.ensures.answer words sp) (lp.expected_comma sp first.at c.in_ok-at.at _ c.in_ok-at.ensures.there c.in_ok-at.ensures.next
+    (thens (c.in_ok-limit.ensures.answer words sp) (stops e)))))
+    (sx.stopped_part (r.program (r.num_for_rest c.args.line c.args.name (expr_view first.node) (expr_view limit.node) (counts c.args.scope))) (lp.after_step (counts c.args.scope)) (lp.put_step c.args.line c.args.name (expr_view first.node) (expr_view limit.node)) (λ y. y) limit.at words c.in_err-step.field-0.0
+    (c.in_err-step.ensures.answer c.args.line c.args.name (expr_view first.node) (expr_view limit.node) words sp))
+
+pub loops::numeric_for-returns-in_err-body-clause-answer : goal.loops::numeric_for-returns-in_err-body-clause-answer
+loops::numeric_for-returns-in_err-body-clause-answer t c words sp =
+    let first = c.in_ok-first.first in
+    let limit = c.in_ok-limit.limit in
+    let step = c.in_ok-step.step in
+    stopped block_view stat_view step.at c.args.at words c.in_err-body.field-0.0 c.from_residual-in_err-body.result c.from_residual-in_err-body.ensures.1
+    (λ x us e. lp.numeric_opens sp c.args.line c.args.name (counts c.args.scope) c.args.at _ c.requires.here (thens (c.in_ok-first.ensures.answer words sp) (lp.expected_comma sp first.at c.in_ok-at.at _ c.in_ok-at.ensures.there c.in_ok-at.ensures.next
+    (thens (c.in_ok-limit.ensures.answer words sp) (stops (c.in_ok-step.ensures.answer c.args.line c.args.name (expr_view first.node) (expr_view limit.node) words sp (r.stuck x us) e)))))) (c.in_err-body.ensures.answer words sp)
+
+pub loops::numeric_for-returns-clause-answer : goal.loops::numeric_for-returns-clause-answer
+loops::numeric_for-returns-clause-answer t c words sp =
+    let first = c.in_ok-first.first in
+    let limit = c.in_ok-limit.limit in
+    let step = c.in_ok-step.step in
+    let body = c.in_ok-body.body in
+    lp.numeric_opens sp c.args.line c.args.name (counts c.args.scope) c.args.at _ c.requires.here (thens (c.in_ok-first.ensures.answer words sp) (lp.expected_comma sp first.at c.in_ok-at.at _ c.in_ok-at.ensures.there c.in_ok-at.ensures.next
+    (thens (c.in_ok-limit.ensures.answer words sp) (thens (c.in_ok-step.ensures.answer c.args.line c.args.name (expr_view first.node) (expr_view limit.node) words sp (r.got (block_view body.node) (drop body.at words)) (c.in_ok-body.ensures.answer words sp))
+    (gave (sym (lp.view_num_for _ _ _ _ _ _)))))))
+
+pub loops::numeric_for-returns-clause-moves : goal.loops::numeric_for-returns-clause-moves
+loops::numeric_for-returns-clause-moves t c = record {
+  forth = omega (arith, c.in_ok-first.ensures.moves.forth, c.in_ok-at.ensures.next, c.in_ok-limit.ensures.moves.forth, c.in_ok-step.ensures.moves.forth, c.in_ok-body.ensures.moves.forth);
+  within = c.in_ok-body.ensures.moves.within;
+  high = omega (arith, lp.tall_at_num_for c.args.line c.args.name c.in_ok-first.first.node c.in_ok-limit.limit.node c.in_ok-step.step.node c.in_ok-body.body.node, c.in_ok-first.ensures.moves.high, c.in_ok-limit.ensures.moves.high, c.in_ok-step.ensures.moves.high, c.in_ok-body.ensures.moves.high);
+  low = omega (arith, c.in_ok-first.ensures.moves.low, c.in_ok-limit.ensures.moves.low, c.in_ok-step.ensures.moves.low, c.in_ok-body.ensures.moves.low);
+}
+
+pub loops::step-returns-then-not-is-clause-answer : goal.loops::step-returns-then-not-is-clause-answer
+loops::step-returns-then-not-is-clause-answer t c line x a b words sp r d =
+    lp.no_step sp line x a b (counts c.args.scope) c.args.at r (λ e. false≢true (sym c.if-not-is.true ∙ c.is.ensures.value.1 e)) d
+
+pub loops::step-returns-in_err-value-clause-answer : goal.loops::step-returns-in_err-value-clause-answer
+loops::step-returns-in_err-value-clause-answer t c line x a b words sp =
+    part_stopped expr_view (lp.after_step (counts c.args.scope)) (lp.put_step line x a b) (c.args.at + 1) c.args.at words c.in_err-value.field-0.0 c.from_residual.result c.from_residual.ensures.1
+    (λ y us e. lp.one_step sp line x a b (counts c.args.scope) c.args.at _ (c.is.ensures.value.0 c.if-not-is.false) (stops e)) (c.in_err-value.ensures.answer words sp)
+
+pub loops::step-returns-clause-answer : goal.loops::step-returns-clause-answer
+loops::step-returns-clause-answer t c line x a b words sp r d =
+    lp.one_step sp line x a b (counts c.args.scope) c.args.at _ (c.is.ensures.value.0 c.if-not-is.false) (thens (c.in_ok-value.ensures.answer words sp) (given {f = λ body. t.num_for_by line x a b (expr_view c.in_ok-value.value.node) body} r d))
+
+pub loops::generic_for-returns-in_err-names-clause-answer : goal.loops::generic_for-returns-in_err-names-clause-answer
+loops::generic_for-returns-in_err-names-clause-answer t c words sp =
+    stopped (λ names. drop 1 names) stat_view c.args.at c.args.at words c.in_err-names.field-0.0 c.from_residual.result c.from_residual.ensures.1
+    (λ x us e. lp.generic_opens sp c.args.line c.args.name (counts c.args.scope) c.args.at _ c.requires.here (stops (lp.at_more (omega arith) e))) (c.in_err-names.ensures.answer words sp)
+
+pub loops::generic_for-returns-in_err-at-clause-answer : goal.loops::generic_for-returns-in_err-at-clause-answer
+loops::generic_for-returns-in_err-at-clause-answer t c words sp =
+    let names = c.in_ok-names.names in
+    faulted stat_view c.args.at words faults.Unexpected names.at (kind_at c.args.source.now.tokens.now names.at ≡ Some kinds.In → ⊥) c.in_err-at.field-0.0 c.from_residual-in_err-at.result c.from_residual-in_err-at.ensures.1 c.in_err-at.ensures.err
+    (λ none. lp.generic_opens sp c.args.line c.args.name (counts c.args.scope) c.args.at _ c.requires.here (thens (lp.at_more (omega arith) (c.in_ok-names.ensures.answer words sp)) (not_there (no_key sp names.at kinds.In (key w.in_) refl none))))
+
+pub loops::generic_for-returns-in_err-values-clause-answer : goal.loops::generic_for-returns-in_err-values-clause-answer
+loops::generic_for-returns-in_err-values-clause-answer t c words sp =
+    let names = c.in_ok-names.names in
+    stopped exprs_view stat_view c.in_ok-at.at c.args.at words c.in_err-values.field-0.0 c.from_residual-in_err-values.result c.from_residual-in_err-values.ensures.1
+    (λ x us e. lp.generic_opens sp c.args.line c.args.name (counts c.args.scope) c.args.at _ c.requires.here (thens (lp.at_more (omega arith) (c.in_ok-names.ensures.answer words sp)) (lp.expected_in sp names.at c.in_ok-at.at _ c.in_ok-at.ensures.there c.in_ok-at.ensures.next (stops e)))) (c.in_err-values.ensures.answer words sp)
+
+pub loops::generic_for-returns-in_err-body-clause-answer : goal.loops::generic_for-returns-in_err-body-clause-answer
+loops::generic_for-returns-in_err-body-clause-answer t c words sp =
+    let names = c.in_ok-names.names in
+    let values = c.in_ok-values.values in
+    stopped block_view stat_view values.at c.args.at words c.in_err-body.field-0.0 c.from_residual-in_err-body.result c.from_residual-in_err-body.ensures.1
+    (λ x us e. lp.generic_opens sp c.args.line c.args.name (counts c.args.scope) c.args.at _ c.requires.here (thens (lp.at_more (omega arith) (c.in_ok-names.ensures.answer words sp)) (lp.expected_in sp names.at c.in_ok-at.at _ c.in_ok-at.ensures.there c.in_ok-at.ensures.next
+    (thens (c.in_ok-values.ensures.answer words sp) (stops (lp.so_many (c.len-count.ensures ∙ ap length c.in_ok-names.ensures.first) e)))))) (c.in_err-body.ensures.answer words sp)
+
+pub loops::generic_for-returns-clause-answer : goal.loops::generic_for-returns-clause-answer
+loops::generic_for-returns-clause-answer t c words sp =
+    let names = c.in_ok-names.names in
+    let values = c.in_ok-values.values in
+    lp.generic_opens sp c.args.line c.args.name (counts c.args.scope) c.args.at _ c.requires.here (thens (lp.at_more (omega arith) (c.in_ok-names.ensures.answer words sp)) (lp.expected_in sp names.at c.in_ok-at.at _ c.in_ok-at.ensures.there c.in_ok-at.ensures.next
+    (thens (c.in_ok-values.ensures.answer words sp) (thens (lp.so_many (c.len-count.ensures ∙ ap length c.in_ok-names.ensures.first) (c.in_ok-body.ensures.answer words sp))
+    (gave (ap (λ xs. t.gen_for c.args.line xs (exprs_view values.node) (block_view c.in_ok-body.body.node)) (sym c.in_ok-names.ensures.first) ∙ sym (lp.view_gen_for _ _ _ _)))))))
+
+pub loops::generic_for-returns-clause-moves : goal.loops::generic_for-returns-clause-moves
+loops::generic_for-returns-clause-moves t c = record {
+  forth = omega (arith, c.in_ok-names.ensures.forth, c.in_ok-at.ensures.next, c.in_ok-values.ensures.moves.forth, c.in_ok-body.ensures.moves.forth);
+  within = c.in_ok-body.ensures.moves.within;
+  high = omega (arith, lp.tall_at_gen_for c.args.line c.in_ok-names.names.node c.in_ok-values.values.node c.in_ok-body.body.node, c.in_ok-values.ensures.moves.high, c.in_ok-body.ensures.moves.high);
+  low = omega (arith, c.in_ok-values.ensures.moves.low, c.in_ok-body.ensures.moves.low);
+}
+
+-- ---- assignments
+
+pub assignments::local_variables-returns-in_err-name-clause-answer : goal.assignments::local_variables-returns-in_err-name-clause-answer
+assignments::local_variables-returns-in_err-name-clause-answer t c words sp =
+    stopped (λ y. y) stat_view (c.args.at + 1) c.args.at words c.in_err-name.field-0.0 c.from_residual.result c.from_residual.ensures.1
+    (λ x us e. tg.local_opens sp (counts c.args.scope) c.args.at _ c.requires.here c.requires.plain e)
+    (tg.no_local c.args.source.now sp (λ y. y) _ (c.args.at + 1) c.args.scope.locals c.in_err-name.field-0.0 c.in_err-name.ensures.err)
+
+pub assignments::local_variables-returns-in_err-names-clause-answer : goal.assignments::local_variables-returns-in_err-names-clause-answer
+assignments::local_variables-returns-in_err-names-clause-answer t c words sp =
+    stopped (λ names. drop 1 names) stat_view (c.args.at + 2) c.args.at words c.in_err-names.field-0.0 c.from_residual-in_err-names.result c.from_residual-in_err-names.ensures.1
+    (λ x us e. tg.local_opens sp (counts c.args.scope) c.args.at _ c.requires.here c.requires.plain
+    (lp.local_named c.args.source.now sp _ (c.args.at + 1) (c.args.at + 2) c.args.scope.locals c.in_ok-name.name _ c.in_ok-name.ensures.ok c.in_ok-name.ensures.room (omega arith) (stops (lp.at_more (omega arith) e))))
+    (c.in_err-names.ensures.answer words sp)
+
+pub assignments::local_variables-returns-in_err-values-clause-answer : goal.assignments::local_variables-returns-in_err-values-clause-answer
+assignments::local_variables-returns-in_err-values-clause-answer t c words sp =
+    let names = c.in_ok-names.names in
+    stopped exprs_view stat_view names.at c.args.at words c.in_err-values.field-0.0 c.from_residual-in_err-values.result c.from_residual-in_err-values.ensures.1
+    (λ x us e. tg.local_opens sp (counts c.args.scope) c.args.at _ c.requires.here c.requires.plain
+    (lp.local_named c.args.source.now sp _ (c.args.at + 1) (c.args.at + 2) c.args.scope.locals c.in_ok-name.name _ c.in_ok-name.ensures.ok c.in_ok-name.ensures.room (omega arith)
+    (thens (lp.at_more (omega arith) (c.in_ok-names.ensures.answer words sp)) (stops e))))
+    (c.in_err-values.ensures.answer words sp)
+
+pub assignments::local_variables-returns-clause-answer : goal.assignments::local_variables-returns-clause-answer
+assignments::local_variables-returns-clause-answer t c words sp =
+    let names = c.in_ok-names.names in
+    tg.local_opens sp (counts c.args.scope) c.args.at _ c.requires.here c.requires.plain
+    (lp.local_named c.args.source.now sp _ (c.args.at + 1) (c.args.at + 2) c.args.scope.locals c.in_ok-name.name _ c.in_ok-name.ensures.ok c.in_ok-name.ensures.room (omega arith)
+    (thens (lp.at_more (omega arith) (c.in_ok-names.ensures.answer words sp)) (thens (c.in_ok-values.ensures.answer words sp)
+    (gave (tg.same_local _ c.line_at.result c.in_ok-name.name names.node c.in_ok-values.values.node c.line_at.ensures c.in_ok-names.ensures.first)))))
+
+pub assignments::initial_values-returns-in_err-may_nest-clause-answer : goal.assignments::initial_values-returns-in_err-may_nest-clause-answer
+assignments::initial_values-returns-in_err-may_nest-clause-answer t c words sp =
+    faulted exprs_view c.args.at words faults.TooDeep c.args.at (200 < c.args.scope.depth + 1) c.in_err-may_nest.field-0.0 c.from_residual.result c.from_residual.ensures.1 c.in_err-may_nest.ensures.err
+    (λ over. tg.init_deep sp (counts c.args.scope) c.args.at (c.is.ensures.value.0 c.if-is.true) (omega (arith, over)))
+
+pub assignments::initial_values-returns-in_ok-may_nest-clause-answer : goal.assignments::initial_values-returns-in_ok-may_nest-clause-answer
+assignments::initial_values-returns-in_ok-may_nest-clause-answer t c words sp =
+    onward exprs_view (c.args.at + 1) c.args.at words c.expressions.result
+    (λ r d. tg.init_opens sp (counts c.args.scope) c.args.at r (c.is.ensures.value.0 c.if-is.true) (omega (arith, c.in_ok-may_nest.ensures.ok)) d) (c.expressions.ensures.answer words sp)
+
+pub assignments::initial_values-returns-else-is-clause-answer : goal.assignments::initial_values-returns-else-is-clause-answer
+assignments::initial_values-returns-else-is-clause-answer t c words sp =
+    tg.no_init sp (counts c.args.scope) c.args.at c.new.result (λ e. false≢true (sym c.if-is.false ∙ c.is.ensures.value.1 e)) c.new.ensures
+
+pub assignments::call_or_assignment-returns-in_err-first-clause-answer : goal.assignments::call_or_assignment-returns-in_err-first-clause-answer
+assignments::call_or_assignment-returns-in_err-first-clause-answer t c words sp =
+    stopped expr_view stat_view c.args.at c.args.at words c.in_err-first.field-0.0 c.from_residual.result c.from_residual.ensures.1
+    (λ x us e. tg.stat_prefix sp (counts c.args.scope) c.args.at _ c.requires.here (stops e)) (c.in_err-first.ensures.answer words sp)
+
+pub assignments::call_or_assignment-returns-in-Variable-clause-answer : goal.assignments::call_or_assignment-returns-in-Variable-clause-answer
+assignments::call_or_assignment-returns-in-Variable-clause-answer t c words sp =
+    let first = c.in_ok-first.first in
+    onward stat_view first.at c.args.at words c.assignment.result
+    (λ r d. tg.stat_prefix sp (counts c.args.scope) c.args.at r c.requires.here (thens (c.in_ok-first.ensures.answer words sp) (just (tg.rest_at (counts c.args.scope) (expr_view first.node) c.line_at-line.ensures d))))
+    (c.assignment.ensures.answer words sp)
+
+pub assignments::call_or_assignment-returns-in-Call-clause-answer : goal.assignments::call_or_assignment-returns-in-Call-clause-answer
+assignments::call_or_assignment-returns-in-Call-clause-answer t c words sp =
+    let first = c.in_ok-first.first in
+    tg.stat_prefix sp (counts c.args.scope) c.args.at _ c.requires.here (thens (c.in_ok-first.ensures.answer words sp) (just
+    (tg.rest_at (counts c.args.scope) (expr_view first.node) c.line_at-line.ensures (tg.call_value (counts c.args.scope) c.line_at-line.result first.node (sym c.shape_of.ensures ∙ ap shape_view c.in-Call.is)))))
+
+pub assignments::call_or_assignment-returns-in-Other-clause-answer : goal.assignments::call_or_assignment-returns-in-Other-clause-answer
+assignments::call_or_assignment-returns-in-Other-clause-answer t c words sp =
+    let first = c.in_ok-first.first in
+    tg.stat_prefix sp (counts c.args.scope) c.args.at _ c.requires.here (thens (c.in_ok-first.ensures.answer words sp) (stops
+    (tg.other_stat _ (counts c.args.scope) (expr_view first.node) (sym c.shape_of.ensures ∙ ap shape_view c.in-Other.is))))
+
+pub assignments::assignment-targets-init : goal.assignments::assignment-targets-init
+assignments::assignment-targets-init t c =
+    let one = c.in_ok-push.ensures.items ∙ ap (λ (ys : List Expr). ys ++ c.args.first.node ∷ []) c.new-targets.ensures.items in
+    record {
+      forth = omega arith;
+      within = c.requires.behind.within;
+      high = omega (arith, c.requires.behind.high, ap exprs_tall one);
+      front = tg.target_front _ _ one;
+      low = c.requires.behind.low;
+      so_far = λ words sp. tg.targets_begin words (counts c.args.scope) c.args.first.at c.args.first.node _ one;
+    }
+
+pub assignments::assignment-targets-preserved : goal.assignments::assignment-targets-preserved
+assignments::assignment-targets-preserved t c =
+    let m = c.in_ok-next.ensures.moves in
+    let more = c.in_ok-push-2.ensures.items in
+    record {
+      forth = omega (arith, m.forth, c.targets.invariant.forth);
+      within = m.within;
+      high = omega (arith, m.high, c.targets.invariant.high, ap exprs_tall more, lists.exprs_tall_last c.targets.targets.items c.in_ok-next.next.node, c.max-height.ensures);
+      front = tg.target_stays _ _ _ _ c.targets.invariant.front more;
+      low = omega (arith, m.low, c.targets.invariant.low, c.max-height.ensures);
+      so_far = λ words sp. tg.one_more_target sp (counts c.args.scope) c.args.first.at c.targets.end _ c.args.first.node c.in_ok-next.next.node c.targets.targets.items _ (c.is.ensures.value.0 c.targets-test.true) c.targets.invariant.front more
+          (c.in_ok-next.ensures.answer words sp) (c.targets.invariant.so_far words sp);
+    }
+
+pub assignments::assignment-returns-in_err-next-clause-answer : goal.assignments::assignment-returns-in_err-next-clause-answer
+assignments::assignment-returns-in_err-next-clause-answer t c words sp =
+    let k = counts c.args.scope in
+    let end = c.targets.end in
+    stopped (λ y. y) stat_view (end + 1) c.args.first.at words c.in_err-next.field-0.0 c.from_residual-in_err-next.result c.from_residual-in_err-next.ensures.1
+    (λ x us e. tg.var_stat c.args.line k (expr_view c.args.first.node) c.requires.here (stops (c.targets.invariant.so_far words sp (r.stuck x us) (tg.target_reads sp k end _ (c.is.ensures.value.0 c.targets-test.true) e))))
+    (sx.stopped_part (r.then (r.prefix r.targeted k) (λ e. r.target_of k e (r.shape e))) (tg.after_target k) tg.put_target (λ y. y) (end + 1) words c.in_err-next.field-0.0 (c.in_err-next.ensures.answer words sp))
+
+pub assignments::assignment-returns-in_err-at-clause-answer : goal.assignments::assignment-returns-in_err-at-clause-answer
+assignments::assignment-returns-in_err-at-clause-answer t c words sp =
+    let k = counts c.args.scope in
+    let end = c.targets.end in
+    faulted stat_view c.args.first.at words faults.Unexpected end (kind_at c.args.source.now.tokens.now end ≡ Some kinds.Assign → ⊥) c.in_err-at.field-0.0 c.from_residual-in_err-at.result c.from_residual-in_err-at.ensures.1 c.in_err-at.ensures.err
+    (λ none. tg.var_stat c.args.line k (expr_view c.args.first.node) c.requires.here (thens (tg.targets_end sp k c.args.first.at end c.targets.targets.items (λ e. false≢true (sym c.targets-test.false ∙ c.is.ensures.value.1 e)) (c.targets.invariant.so_far words sp))
+    (not_there (no_key sp end kinds.Assign (key w.assign) refl none))))
+
+pub assignments::assignment-returns-in_err-values-clause-answer : goal.assignments::assignment-returns-in_err-values-clause-answer
+assignments::assignment-returns-in_err-values-clause-answer t c words sp =
+    let k = counts c.args.scope in
+    let end = c.targets.end in
+    stopped exprs_view stat_view c.in_ok-at.at c.args.first.at words c.in_err-values.field-0.0 c.from_residual-in_err-values.result c.from_residual-in_err-values.ensures.1
+    (λ x us e. tg.var_stat c.args.line k (expr_view c.args.first.node) c.requires.here (thens (tg.targets_end sp k c.args.first.at end c.targets.targets.items (λ e. false≢true (sym c.targets-test.false ∙ c.is.ensures.value.1 e)) (c.targets.invariant.so_far words sp))
+    (lp.expected_assign sp end c.in_ok-at.at _ c.in_ok-at.ensures.there c.in_ok-at.ensures.next (stops e)))) (c.in_err-values.ensures.answer words sp)
+
+pub assignments::assignment-returns-clause-answer : goal.assignments::assignment-returns-clause-answer
+assignments::assignment-returns-clause-answer t c words sp =
+    let k = counts c.args.scope in
+    let end = c.targets.end in
+    tg.var_stat c.args.line k (expr_view c.args.first.node) c.requires.here (thens (tg.targets_end sp k c.args.first.at end c.targets.targets.items (λ e. false≢true (sym c.targets-test.false ∙ c.is.ensures.value.1 e)) (c.targets.invariant.so_far words sp))
+    (lp.expected_assign sp end c.in_ok-at.at _ c.in_ok-at.ensures.there c.in_ok-at.ensures.next (thens (c.in_ok-values.ensures.answer words sp)
+    (gave (tg.same_assign c.args.line c.args.first.node c.targets.targets.items c.from_vec.result c.in_ok-values.values.node c.targets.invariant.front c.from_vec.ensures)))))
+
+pub assignments::target-returns-in_err-read-clause-answer : goal.assignments::target-returns-in_err-read-clause-answer
+assignments::target-returns-in_err-read-clause-answer t c words sp =
+    part_stopped expr_view (tg.after_target (counts c.args.scope)) tg.put_target c.args.at c.args.at words c.in_err-read.field-0.0 c.from_residual.result c.from_residual.ensures.1 (λ x us e. stops e) (c.in_err-read.ensures.answer words sp)
+
+pub assignments::target-returns-in-Variable-clause-answer : goal.assignments::target-returns-in-Variable-clause-answer
+assignments::target-returns-in-Variable-clause-answer t c words sp o more =
+    thens (c.in_ok-read.ensures.answer words sp) (tg.var_target (counts c.args.scope) (expr_view c.in_ok-read.read.node) o (sym c.shape_of.ensures ∙ ap shape_view c.in-Variable.is) more)
+
+pub assignments::target-returns-in_default : goal.assignments::target-returns-in_default
+assignments::target-returns-in_default t c = ?

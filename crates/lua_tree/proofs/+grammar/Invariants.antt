@@ -1,4 +1,4 @@
-use Rattle.std.proofs.Common.{◌≡◌, ◌<◌, ◌≤◌, ◌+◌, ◌-◌, ◌*◌, length, List, drop}
+use Rattle.std.proofs.Common.{◌≡◌, ◌<◌, ◌≤◌, ◌+◌, ◌-◌, ◌*◌, ◌∷◌, length, List, drop}
 use Rattle.lua_tree.specs.Tree.{Expr, Exprs, Fields, Block, Arms}
 use Rattle.lua_tree.specs.Words.{Tok}
 use Rattle.lua_tree.specs.Reading.{Answer, Reads, program, an_expr, some_exprs, some_targets, some_fields, some_arms, a_block, more, suffixes, exprs, more_exprs, fields, block, arms, more_arms, more_targets}
@@ -233,6 +233,7 @@ invariant-assignments::assignment-targets l = record {
   forth : l.fn.first.at ≤ l.end;
   within : l.end ≤ length l.source.tokens.now;
   high : l.height ≡ exprs_tall l.targets.items;
+  front : l.targets.items ≡ l.fn.first.node ∷ drop 1 l.targets.items;
   low : l.scope.depth + l.height ≤ 200;
   so_far : (words : List Tok) → Spelled l.source.bytes.now 1 l.source.tokens.now words → (r : Answer Exprs)
       → Reads limits some_targets (program (more_targets (counts l.scope))) (drop l.end words) r → Reads limits some_targets (program (more_targets (counts l.scope))) (drop l.fn.first.at words) (as_part (exprs_onto (drop 1 l.targets.items)) r);
