@@ -21,7 +21,9 @@ use Rattle.lua_tree.specs.Words.{Word, Key, key, Spot, Tok, tok, word_of, spot_o
 use Rattle.lua_tree.specs.Attributes.{locals, nodes, Counts, height, most_exprs, most_stat, declared}
 use Rattle.lua_tree.specs.Reading.{Sort, Value, Rule, Prog, give, expect, expect_name, then, free, many, Answer, got, stuck, unexpected, over, Reads, Fault, gives, fails, no_name, program, some_names, some_targets, some_exprs, a_stat, more_names, more_targets, exprs, init, prefix, leading, targeted, prefix_stat, prefix_stat_of, target_of, stat as stat_rule, stat_of, local_rest_of, Shape, shape, a_var, a_call, a_paren}
 use Rattle.lua_tree.specs.Spelled.{Spelled, kind_at, kind_of}
-use Rattle.lua_tree.specs.Begins.{begins_prefix}
+use Rattle.lua_tree.specs.Begins.{begins_prefix, shape_view}
+use Rattle.lua_tree.specs.declared.assignments.Shape as shape_type
+use Rattle.lua_tree.specs.declared.assignments.Shape.TheVariants as shapes
 use Rattle.lua_token.specs.declared.kind.Kind.{Kind}
 use Rattle.std.proofs.lemmas.Bool.{false≢true}
 use Rattle.lua_tree.proofs.Places.{here}
@@ -279,3 +281,9 @@ after_target c e = program (more_targets c)
 
 abbrev pub put_target : Expr → t.Exprs → t.Exprs
 put_target e rest = t.expr_and (expr_view e) rest
+
+-- only a variable is seen as one
+pub only_variable : (s : shape_type.Shape) → shape_view s ≡ a_var → s ≡ shapes.Variable
+only_variable shapes.Variable e = refl
+only_variable shapes.Call e = cc
+only_variable shapes.Other e = cc

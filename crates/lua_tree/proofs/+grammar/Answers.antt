@@ -905,4 +905,7 @@ assignments::target-returns-in-Variable-clause-answer t c words sp o more =
     thens (c.in_ok-read.ensures.answer words sp) (tg.var_target (counts c.args.scope) (expr_view c.in_ok-read.read.node) o (sym c.shape_of.ensures ∙ ap shape_view c.in-Variable.is) more)
 
 pub assignments::target-returns-in_default : goal.assignments::target-returns-in_default
-assignments::target-returns-in_default t c = ?
+assignments::target-returns-in_default t c = record {
+  moves = tt;
+  answer = λ words sp. thens (c.in_ok-read.ensures.answer words sp) (tg.other_target (counts c.args.scope) (expr_view c.in_ok-read.read.node) (λ v. c.in_default.not-Variable (tg.only_variable _ (c.shape_of.ensures ∙ v))));
+}
