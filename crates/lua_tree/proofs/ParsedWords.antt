@@ -10,16 +10,22 @@ use Rattle.lua_token.specs.declared.fault.LexFault.{LexFault}
 use Rattle.lua_token.specs.declared.fault.LexWhat.{LexWhat}
 use Rattle.lua_token.specs.declared.fault.LexWhat.TheVariants as lex
 use Rattle.lua_token.proofs.Values.{some_value}
+use Rattle.std.specs.Result.{IsErrAnd}
+use Rattle.lua_tree.specs.declared.tree.Chunk.{Chunk}
+use Rattle.lua_tree.specs.declared.stop.Stop.{Stop}
+use Rattle.lua_tree.specs.declared.stop.Stop.TheVariants as stopped
 use Rattle.lua_tree.specs.declared.stop.Fault as declared
 use Rattle.lua_tree.specs.declared.stop.Fault.TheVariants as stop
 use Rattle.lua_tree.specs.Tree.{Block}
 use Rattle.lua_tree.specs.Words as w
 use Rattle.lua_tree.specs.Words.{Word, Tok, tok}
-use Rattle.lua_tree.specs.Reading.{Sort, Value, at_last, Answer, got, stuck, unexpected, Reads, is_last, not_last}
+use Rattle.lua_tree.specs.Attributes.{at_chunk}
+use Rattle.lua_tree.specs.Reading.{Sort, Value, at_last, Answer, got, stuck, unexpected, Reads, is_last, not_last, stops, block, program}
+use Rattle.lua_tree.specs.View.{block_view}
 use Rattle.lua_tree.specs.Faults.{IsExact, Agree}
 use Rattle.lua_tree.specs.Spelled.{Spelled, no_token, token_and, IsWord, spot_behind, word_of_kind}
-use Rattle.lua_tree.specs.Answer.{limits, fault_of}
-use Rattle.lua_tree.specs.Parsed.{WordsOf, place_of, place_before, fault_at, lexical_as, IsExactFault, GivesFaultAt}
+use Rattle.lua_tree.specs.Answer.{Answers, limits, fault_of}
+use Rattle.lua_tree.specs.Parsed.{ChunkAnswers, WordsOf, place_of, place_before, fault_at, lexical_as, IsExactFault, GivesFaultAt}
 use Rattle.lua_tree.proofs.Places.{here, past}
 
 -- a token that stands in the source is a word of it
@@ -97,3 +103,16 @@ gives_fault source stop.AmbiguousCall p rest (stuck x us) same e = (stop.Ambiguo
 pub lexical_exact : (source : List ℕ) (what : LexWhat) (fault : LexFault) → IsTokensAnswer source (Err fault) → IsExactFault source (lexical_as what fault)
 lexical_exact source lex.Memory fault h = tt
 lexical_exact source what fault h = h
+
+-- why the block of a chunk stopped is why the chunk does
+why_chunk : (words : List Tok) (why : Stop) → Answers block_view (program (block at_chunk)) 0 (Err why) words → ChunkAnswers (Err why) words
+why_chunk words (stopped.At f place) d = stops d
+why_chunk words stopped.Memory d = tt
+
+pub chunk_stopped : (r : Result Chunk Stop) (why : Stop) (words : List Tok) → IsErrAnd r (λ y. y ≡ why) → Answers block_view (program (block at_chunk)) 0 (Err why) words → ChunkAnswers r words
+chunk_stopped (Ok x) why words is d = absurd is
+chunk_stopped (Err y) why words is d = subst (λ (x : Stop). ChunkAnswers (Err x) words) (sym is) (why_chunk words why d)
+
+-- the tokens by another name
+pub renamed : {source : List ℕ} {words : List Tok} (ts us : List Token) → us ≡ ts → Spelled source 1 ts words → Spelled source 1 us words
+renamed {source = source} {words = words} ts us e sp = subst (λ (xs : List Token). Spelled source 1 xs words) (sym e) sp
