@@ -42,7 +42,7 @@ onward view at start words (Err (stops.At f place)) k d = k (stuck (fault_of f) 
 onward view at start words (Err stops.Memory) k d = tt
 
 -- an error that is handed on
-handed : {T : Type 0} (r : Result T Stop) (stop : Stop) (P : Result T Stop → Type 0) → IsErrAnd r (λ y. y ≡ stop) → P (Err stop) → P r
+pub handed : {T : Type 0} (r : Result T Stop) (stop : Stop) (P : Result T Stop → Type 0) → IsErrAnd r (λ y. y ≡ stop) → P (Err stop) → P r
 handed (Ok x) stop P is p = absurd is
 handed (Err y) stop P is p = subst (λ s. P (Err s)) (sym is) p
 

@@ -39,3 +39,5 @@ pub mod ParsedWords
 pub mod SuffixSteps
 pub mod TargetSteps
 pub mod LoopSteps
+pub mod ExpressionSteps
+pub mod TableSteps

@@ -10,7 +10,7 @@ ghost use Rattle.lua_tree.specs.Answer.{Answers, Fits, IsCut, Moves, OfWords, Pa
 use crate::expressions::{expression, operations};
 use crate::scope::Scope;
 use crate::source::{Read, Source, may_nest};
-use crate::stop::{Fault, Stop};
+use crate::stop::Stop;
 use crate::suffixes::{Position, name, suffixes};
 use crate::{Expr, ExprKind, Field};
 use love_base::List;
@@ -71,11 +71,11 @@ fn behind_field(source: &Source, at: usize) -> Result<usize, Stop>
     ensures within { IfOk result (λ next. next ≤ length source.now.tokens.now) }
     ensures answer { (c : Counts) → OfWords source.now (FieldEnd source.now c at result) }
 {
-    match source.kind_at(at) {
-        Some(Kind::Comma | Kind::Semicolon) => Ok(at + 1),
-        Some(Kind::CloseBrace) => Ok(at),
-        _ => Err(Stop::At(Fault::Unexpected, at)),
+    if source.is(at, Kind::Comma) || source.is(at, Kind::Semicolon) {
+        return Ok(at + 1);
     }
+    source.expect(at, Kind::CloseBrace)?;
+    Ok(at)
 }
 
 // field ::= '[' exp ']' '=' exp | Name '=' exp | exp
@@ -169,6 +169,7 @@ fn named_field(source: &Source, at: usize, scope: Scope) -> Result<Read<Field>, 
 
 // A field of a value alone.
 fn item(value: Read<Expr>) -> Read<Field>
+    ensures node { result.node ≡ Field.Item value.node }
     ensures at { result.at ≡ value.at }
     ensures height { result.height ≡ value.height }
 {
