@@ -101,10 +101,7 @@ high_table l n fs h = let x = ap height (view_table l fs) in let y = tall_table 
 
 -- a field in front of others
 field_and : (f : Field) (rest : t.Fields) → most_fields nodes 0 (field_view f rest) ≡ max (field_tall f) (most_fields nodes 0 rest)
-field_and (field_kinds.Item e) rest =
-    let x = ap (most_fields nodes 0) (view_item e rest) in let y = ap (most_fields nodes 0) (view_item e t.no_fields) in omega (arith, x, y)
-field_and (field_kinds.Keyed a b) rest =
-    let x = ap (most_fields nodes 0) (view_keyed a b rest) in let y = ap (most_fields nodes 0) (view_keyed a b t.no_fields) in omega (arith, x, y)
+field_and f rest = elim-Field f as (λ (f : Field). most_fields nodes 0 (field_view f rest) ≡ max (field_tall f) (most_fields nodes 0 rest)) ?
 
 pub fields_tall_last : (fs : List Field) (f : Field) → fields_tall (fs ++ f ∷ []) ≡ max (fields_tall fs) (field_tall f)
 fields_tall_last [] f = omega arith
