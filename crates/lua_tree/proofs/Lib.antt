@@ -41,3 +41,4 @@ pub mod TargetSteps
 pub mod LoopSteps
 pub mod ExpressionSteps
 pub mod TableSteps
+pub mod FieldSteps

@@ -11,6 +11,8 @@ use Rattle.lua_tree.specs.declared.tree.Expr.{Expr}
 use Rattle.lua_tree.specs.declared.tree.Expr as expr_of
 use Rattle.lua_tree.specs.declared.tree.ExprKind as kind
 use Rattle.lua_tree.specs.declared.tree.ExprKind.TheVariants as kinds_of
+use Rattle.lua_tree.specs.declared.tree.ExprKind.TheOpen.{Field-F}
+use Rattle.lua_tree.specs.declared.tree.ExprKind.TheViews.{out-Field}
 use Rattle.lua_tree.specs.declared.tree.Field.{Field}
 use Rattle.lua_tree.specs.declared.tree.Field as field_of
 use Rattle.lua_tree.specs.declared.tree.Field.TheVariants as field_kinds
@@ -26,7 +28,7 @@ use Rattle.lua_tree.specs.Answer.{StoppedAt, as_part, expr_tall, fault_of, field
 use Rattle.lua_tree.proofs.Taking.{just, keeps_free, look_at, take_at}
 use Rattle.lua_tree.proofs.Marks.{key_stands, no_key}
 use Rattle.lua_tree.proofs.Descent.{next}
-use Rattle.lua_tree.proofs.Lists.{fields_last, fields_onto, part_of_part}
+use Rattle.lua_tree.proofs.Lists.{fields_end, fields_last, fields_onto, part_of_part}
 use Rattle.lua_tree.proofs.Others.{look_as, more_fields_other}
 use Rattle.lua_tree.proofs.Tall.{tall_table}
 
@@ -99,11 +101,44 @@ high_keyed n m a b h i = let x = ap (most_fields nodes 0) (view_keyed a b t.no_f
 pub high_table : (l n : ℕ) (fs : List Field) → n ≡ fields_tall fs → 1 + n ≡ expr_tall (record { line = l; what = kinds_of.Table fs })
 high_table l n fs h = let x = ap height (view_table l fs) in let y = tall_table l (fields_view fs) in omega (arith, x, y, h)
 
+-- a field is one of these
+pub field_item : (f : Field) (e : Expr) (rest : t.Fields) → out-Field f ≡ Field-F.Item e → field_view f rest ≡ t.item_and (expr_view e) rest
+field_item f e rest h = search (rules, kind.the_lemmas, expr_of.the_lemmas, field_of.the_lemmas, h)
+
+pub field_keyed : (f : Field) (d e : Expr) (rest : t.Fields) → out-Field f ≡ Field-F.Keyed d e → field_view f rest ≡ t.keyed_and (expr_view d) (expr_view e) rest
+field_keyed f d e rest h = search (rules, kind.the_lemmas, expr_of.the_lemmas, field_of.the_lemmas, h)
+
 -- a field in front of others
 field_and : (f : Field) (rest : t.Fields) → most_fields nodes 0 (field_view f rest) ≡ max (field_tall f) (most_fields nodes 0 rest)
-field_and f rest = elim-Field f as (λ (f : Field). most_fields nodes 0 (field_view f rest) ≡ max (field_tall f) (most_fields nodes 0 rest)) ?
+field_and f rest = elim (out-Field f) as (λ o. out-Field f ≡ o → most_fields nodes 0 (field_view f rest) ≡ max (field_tall f) (most_fields nodes 0 rest)) [
+    | Field-F.Item e ↦ λ h.
+        let x = ap (most_fields nodes 0) (field_item f e rest h) in let y = ap (most_fields nodes 0) (field_item f e t.no_fields h) in omega (arith, x, y)
+    | Field-F.Keyed d e ↦ λ h.
+        let x = ap (most_fields nodes 0) (field_keyed f d e rest h) in let y = ap (most_fields nodes 0) (field_keyed f d e t.no_fields h) in omega (arith, x, y)
+  ] refl
 
 pub fields_tall_last : (fs : List Field) (f : Field) → fields_tall (fs ++ f ∷ []) ≡ max (fields_tall fs) (field_tall f)
 fields_tall_last [] f = omega arith
 fields_tall_last (d ∷ fs) f =
     let h = fields_tall_last fs f in let x = field_and d (fields_view (fs ++ f ∷ [])) in let y = field_and d (fields_view fs) in omega (arith, h, x, y)
+
+pub no_fields_high : (fs : List Field) → fs ≡ [] → 0 ≡ fields_tall fs
+no_fields_high fs e = ap fields_tall (sym e)
+
+pub no_fields_yet : {p : Prog some_fields} {ts : List Tok} (fs : List Field) (r : Answer t.Fields) → fs ≡ [] → Reads limits some_fields p ts r
+    → Reads limits some_fields p ts (as_part (fields_onto fs) r)
+no_fields_yet {p = p} {ts = ts} fs r e d = subst (λ (xs : List Field). Reads limits some_fields p ts (as_part (fields_onto xs) r)) (sym e) (no_field r d)
+
+-- one more field, in a list that was lengthened
+pub longer_fields : {p : Prog some_fields} {ts : List Tok} (us fs : List Field) (f : Field) (r : Answer t.Fields) → us ≡ fs ++ f ∷ []
+    → Reads limits some_fields p ts (as_part (fields_onto fs) (as_part (field_view f) r)) → Reads limits some_fields p ts (as_part (fields_onto us) r)
+longer_fields {p = p} {ts = ts} us fs f r e d = subst (λ (xs : List Field). Reads limits some_fields p ts (as_part (fields_onto xs) r)) (sym e) (one_more_field fs f r d)
+
+pub longer_fields_high : (us fs : List Field) (f : Field) (k n m : ℕ) → us ≡ fs ++ f ∷ [] → k ≡ max n m → n ≡ fields_tall fs → m ≡ field_tall f → k ≡ fields_tall us
+longer_fields_high us fs f k n m e g h i = let x = ap fields_tall e in let y = fields_tall_last fs f in omega (arith, x, y, g, h, i)
+
+-- the list of what was read
+pub fields_are : {p : Prog some_fields} {ts rest : List Tok} (us fs : List Field) → us ≡ fs → Reads limits some_fields p ts (got (fields_onto fs t.no_fields) rest)
+    → Reads limits some_fields p ts (got (fields_view us) rest)
+fields_are {p = p} {ts = ts} {rest = rest} us fs is d =
+    subst (λ (xs : t.Fields). Reads limits some_fields p ts (got xs rest)) (fields_end fs ∙ ap fields_view (sym is)) d

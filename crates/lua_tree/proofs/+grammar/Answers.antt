@@ -29,6 +29,11 @@ use Rattle.lua_tree.specs.Begins.{begins_suffix, opens_arguments, shape_view}
 use Rattle.lua_tree.specs.View.{fields_view}
 use Rattle.lua_tree.specs.declared.tree.Expr as expr_type
 use Rattle.lua_tree.specs.declared.tree.Expr.{Expr}
+use Rattle.lua_tree.proofs.TableSteps as tb
+use Rattle.lua_tree.proofs.FieldSteps as fd
+use Rattle.lua_tree.specs.Answer.{as_part}
+use Rattle.lua_tree.specs.View.{field_view}
+use Rattle.lua_tree.proofs.Descent.{greater_is}
 use Rattle.lua_tree.proofs.+grammar.Goals as goal
 
 -- ---- statements
@@ -908,4 +913,170 @@ pub assignments::target-returns-in_default : goal.assignments::target-returns-in
 assignments::target-returns-in_default t c = record {
   moves = tt;
   answer = λ words sp. thens (c.in_ok-read.ensures.answer words sp) (tg.other_target (counts c.args.scope) (expr_view c.in_ok-read.read.node) (λ v. c.in_default.not-Variable (tg.only_variable _ (c.shape_of.ensures ∙ v))));
+}
+
+-- ---- tables
+
+pub tables::table-returns-in_err-may_nest-clause-answer : goal.tables::table-returns-in_err-may_nest-clause-answer
+tables::table-returns-in_err-may_nest-clause-answer t c words sp =
+    let h = key_stands sp c.args.at kinds.OpenBrace tt c.requires.here in
+    faulted expr_view c.args.at words faults.TooDeep c.args.at (200 < c.args.scope.depth + 1) c.in_err-may_nest.field-0.0 c.from_residual.result c.from_residual.ensures.1 c.in_err-may_nest.ensures.err
+    (λ over. look_at h.is (passed_at h.is (passes_deep _ (omega (arith, over)))))
+
+pub tables::table-returns-in_err-fields-clause-answer : goal.tables::table-returns-in_err-fields-clause-answer
+tables::table-returns-in_err-fields-clause-answer t c words sp =
+    let h = key_stands sp c.args.at kinds.OpenBrace tt c.requires.here in
+    let d = at_counts fields_view r.fields _ _ (c.args.at + 1) words (Err c.in_err-fields.field-0.0) c.deeper.ensures.counts (c.in_err-fields.ensures.answer words sp) in
+    stopped {whole = r.program (r.first (counts c.args.scope))} fields_view expr_view (c.args.at + 1) c.args.at words c.in_err-fields.field-0.0 c.from_residual-in_err-fields.result c.from_residual-in_err-fields.ensures.1
+    (λ x us e. look_at h.is (take_at h.is (keeps_deep _ (omega (arith, c.in_ok-may_nest.ensures.ok))) (next c.args.at words (stops e)))) d
+
+pub tables::table-returns-clause-answer : goal.tables::table-returns-clause-answer
+tables::table-returns-clause-answer t c words sp =
+    let h = key_stands sp c.args.at kinds.OpenBrace tt c.requires.here in
+    let d = at_counts fields_view r.fields _ _ (c.args.at + 1) words (Ok c.in_ok-fields.fields) c.deeper.ensures.counts (c.in_ok-fields.ensures.answer words sp) in
+    look_at h.is (take_at h.is (keeps_deep _ (omega (arith, c.in_ok-may_nest.ensures.ok))) (next c.args.at words (thens d
+    (gave (ap (λ l. t.table l (fields_view c.in_ok-fields.fields.node)) (h.line ∙ sym c.line_at.ensures) ∙ sym (tb.view_table _ _))))))
+
+pub tables::table-returns-clause-moves : goal.tables::table-returns-clause-moves
+tables::table-returns-clause-moves t c = record {
+  forth = omega (arith, c.in_ok-fields.ensures.moves.forth);
+  within = c.in_ok-fields.ensures.moves.within;
+  high = tb.high_table _ _ _ c.in_ok-fields.ensures.moves.high;
+  low = omega (arith, c.in_ok-fields.ensures.moves.low, c.deeper.ensures.depth);
+}
+
+pub tables::fields-returns-in_err-read-clause-answer : goal.tables::fields-returns-in_err-read-clause-answer
+tables::fields-returns-in_err-read-clause-answer t c words sp =
+    let end = c.fields.end in
+    stopped (λ y. y) fields_view end c.args.at words c.in_err-read.field-0.0 c.from_residual.result c.from_residual.ensures.1
+    (λ x us e. c.fields.invariant.so_far words sp (r.stuck x us) e)
+    (sx.stopped_part (r.program (r.fields (counts c.args.scope))) (fd.after_field (counts c.args.scope)) fd.put_field (λ y. y) end words c.in_err-read.field-0.0 (c.in_err-read.ensures.answer words sp))
+
+pub tables::fields-returns-in_err-end-clause-answer : goal.tables::fields-returns-in_err-end-clause-answer
+tables::fields-returns-in_err-end-clause-answer t c words sp =
+    let read = c.in_ok-read.read in
+    stopped (λ y. y) fields_view read.at c.args.at words c.in_err-end.field-0.0 c.from_residual-in_err-end.result c.from_residual-in_err-end.ensures.1
+    (λ x us e. c.fields.invariant.so_far words sp (r.stuck x us) (c.in_ok-read.ensures.answer words sp (r.stuck x us) e))
+    (fd.end_stopped c.args.source.now (counts c.args.scope) read.at words c.in_err-end.field-0.0 (c.in_err-end.ensures.answer (counts c.args.scope) words sp))
+
+pub tables::fields-fields-preserved : goal.tables::fields-fields-preserved
+tables::fields-fields-preserved t c =
+    let m = c.in_ok-read.ensures.moves in
+    let more = c.in_ok-push.ensures.items in
+    let up = greater_is _ _ _ c.max-height.ensures in
+    record {
+      forth = omega (arith, m.forth, c.fields.invariant.forth, c.in_ok-end.ensures.forth);
+      within = c.in_ok-end.ensures.within;
+      high = tb.longer_fields_high _ c.fields.fields.items c.in_ok-read.read.node _ _ _ more up c.fields.invariant.high m.high;
+      low = omega (arith, m.low, c.fields.invariant.low, up);
+      so_far = λ words sp o d. tb.longer_fields _ c.fields.fields.items c.in_ok-read.read.node o more (c.fields.invariant.so_far words sp (as_part (λ rest. field_view c.in_ok-read.read.node rest) o)
+          (c.in_ok-read.ensures.answer words sp o (c.in_ok-end.ensures.answer (counts c.args.scope) words sp o d)));
+    }
+
+pub tables::fields-returns-clause-answer : goal.tables::fields-returns-clause-answer
+tables::fields-returns-clause-answer t c words sp =
+    let end = c.fields.end in
+    tb.fields_are _ c.fields.fields.items c.from_vec.ensures (c.fields.invariant.so_far words sp (r.got t.no_fields (drop (end + 1) words)) (fd.braces_close sp (counts c.args.scope) end (c.is.ensures.value.0 c.fields-test.false)))
+
+pub tables::field-returns-in_err-expression-in_default-clause-answer : goal.tables::field-returns-in_err-expression-in_default-clause-answer
+tables::field-returns-in_err-expression-in_default-clause-answer t c words sp =
+    let plain : fd.is_plain (kind_at c.args.source.now.tokens.now c.args.at) ≡ true = search rules in
+    part_stopped expr_view (fd.after_field (counts c.args.scope)) fd.put_field c.args.at c.args.at words c.in_err-expression-in_default.field-0.0 c.from_residual.result c.from_residual.ensures.1
+    (λ x us e. fd.plain_opens sp (counts c.args.scope) c.args.at _ plain c.requires.here (stops e)) (c.in_err-expression-in_default.ensures.answer words sp)
+
+pub tables::field-returns-in_ok-expression-in_default-clause-answer : goal.tables::field-returns-in_ok-expression-in_default-clause-answer
+tables::field-returns-in_ok-expression-in_default-clause-answer t c words sp o more =
+    let plain : fd.is_plain (kind_at c.args.source.now.tokens.now c.args.at) ≡ true = search rules in
+    fd.plain_opens sp (counts c.args.scope) c.args.at _ plain c.requires.here (thens (c.in_ok-expression-in_default.ensures.answer words sp)
+    (fd.item_closes words (counts c.args.scope) c.in_ok-expression-in_default.field-0.at _ c.in_ok-expression-in_default.field-0.node _ o c.item.ensures.node c.item.ensures.at more))
+
+pub tables::keyed_field-returns-in_err-may_nest-clause-answer : goal.tables::keyed_field-returns-in_err-may_nest-clause-answer
+tables::keyed_field-returns-in_err-may_nest-clause-answer t c words sp =
+    part_faulted (fd.after_field (counts c.args.scope)) fd.put_field c.args.at words faults.TooDeep c.args.at (200 < c.args.scope.depth + 1) c.in_err-may_nest.field-0.0 c.from_residual.result c.from_residual.ensures.1 c.in_err-may_nest.ensures.err
+    (λ over. fd.keyed_deep sp (counts c.args.scope) c.args.at c.requires.here (omega (arith, over)))
+
+pub tables::keyed_field-returns-in_err-key-clause-answer : goal.tables::keyed_field-returns-in_err-key-clause-answer
+tables::keyed_field-returns-in_err-key-clause-answer t c words sp =
+    part_stopped expr_view (fd.after_field (counts c.args.scope)) fd.put_field (c.args.at + 1) c.args.at words c.in_err-key.field-0.0 c.from_residual-in_err-key.result c.from_residual-in_err-key.ensures.1
+    (λ x us e. fd.keyed_opens sp (counts c.args.scope) c.args.at _ c.requires.here (omega (arith, c.in_ok-may_nest.ensures.ok)) (stops e)) (c.in_err-key.ensures.answer words sp)
+
+pub tables::keyed_field-returns-in_err-at-clause-answer : goal.tables::keyed_field-returns-in_err-at-clause-answer
+tables::keyed_field-returns-in_err-at-clause-answer t c words sp =
+    let inner = c.in_ok-key.key in
+    part_faulted (fd.after_field (counts c.args.scope)) fd.put_field c.args.at words faults.Unexpected inner.at (kind_at c.args.source.now.tokens.now inner.at ≡ Some kinds.CloseBracket → ⊥) c.in_err-at.field-0.0 c.from_residual-in_err-at.result c.from_residual-in_err-at.ensures.1 c.in_err-at.ensures.err
+    (λ none. fd.keyed_opens sp (counts c.args.scope) c.args.at _ c.requires.here (omega (arith, c.in_ok-may_nest.ensures.ok)) (thens (c.in_ok-key.ensures.answer words sp) (not_there (no_key sp inner.at kinds.CloseBracket (key w.close_bracket) refl none))))
+
+pub tables::keyed_field-returns-in_err-at-2-clause-answer : goal.tables::keyed_field-returns-in_err-at-2-clause-answer
+tables::keyed_field-returns-in_err-at-2-clause-answer t c words sp =
+    let inner = c.in_ok-key.key in
+    let close = c.in_ok-at.at in
+    part_faulted (fd.after_field (counts c.args.scope)) fd.put_field c.args.at words faults.Unexpected close (kind_at c.args.source.now.tokens.now close ≡ Some kinds.Assign → ⊥) c.in_err-at-2.field-0.0 c.from_residual-in_err-at-2.result c.from_residual-in_err-at-2.ensures.1 c.in_err-at-2.ensures.err
+    (λ none. fd.keyed_opens sp (counts c.args.scope) c.args.at _ c.requires.here (omega (arith, c.in_ok-may_nest.ensures.ok)) (thens (c.in_ok-key.ensures.answer words sp)
+    (fd.bracketed sp inner.at close _ c.in_ok-at.ensures.there c.in_ok-at.ensures.next (not_there (no_key sp close kinds.Assign (key w.assign) refl none)))))
+
+pub tables::keyed_field-returns-in_err-value-clause-answer : goal.tables::keyed_field-returns-in_err-value-clause-answer
+tables::keyed_field-returns-in_err-value-clause-answer t c words sp =
+    let inner = c.in_ok-key.key in
+    let close = c.in_ok-at.at in
+    part_stopped expr_view (fd.after_field (counts c.args.scope)) fd.put_field c.in_ok-at-2.at c.args.at words c.in_err-value.field-0.0 c.from_residual-in_err-value.result c.from_residual-in_err-value.ensures.1
+    (λ x us e. fd.keyed_opens sp (counts c.args.scope) c.args.at _ c.requires.here (omega (arith, c.in_ok-may_nest.ensures.ok)) (thens (c.in_ok-key.ensures.answer words sp)
+    (fd.bracketed sp inner.at close _ c.in_ok-at.ensures.there c.in_ok-at.ensures.next (fd.assigned sp close c.in_ok-at-2.at _ c.in_ok-at-2.ensures.there c.in_ok-at-2.ensures.next (stops e))))) (c.in_err-value.ensures.answer words sp)
+
+pub tables::keyed_field-returns-clause-answer : goal.tables::keyed_field-returns-clause-answer
+tables::keyed_field-returns-clause-answer t c words sp o more =
+    let inner = c.in_ok-key.key in
+    let close = c.in_ok-at.at in
+    fd.keyed_opens sp (counts c.args.scope) c.args.at _ c.requires.here (omega (arith, c.in_ok-may_nest.ensures.ok)) (thens (c.in_ok-key.ensures.answer words sp)
+    (fd.bracketed sp inner.at close _ c.in_ok-at.ensures.there c.in_ok-at.ensures.next (fd.assigned sp close c.in_ok-at-2.at _ c.in_ok-at-2.ensures.there c.in_ok-at-2.ensures.next
+    (thens (c.in_ok-value.ensures.answer words sp) (fd.keyed_closes (counts c.args.scope) (expr_view inner.node) inner.node c.in_ok-value.value.node o refl more)))))
+
+pub tables::name_field-returns-in_err-base-clause-answer : goal.tables::name_field-returns-in_err-base-clause-answer
+tables::name_field-returns-in_err-base-clause-answer t c words sp =
+    part_stopped (λ y. y) (fd.after_field (counts c.args.scope)) fd.put_field c.args.at c.args.at words c.in_err-base.field-0.0 c.from_residual.result c.from_residual.ensures.1 (λ x us e. e)
+    (fd.no_name_field c.args.source.now sp (counts c.args.scope) c.args.at c.args.scope.depth c.in_err-base.field-0.0 c.requires.here refl c.in_err-base.ensures.err)
+
+pub tables::name_field-returns-in_err-left-clause-answer : goal.tables::name_field-returns-in_err-left-clause-answer
+tables::name_field-returns-in_err-left-clause-answer t c words sp =
+    let base = c.in_ok-base.base in
+    part_stopped expr_view (fd.after_field (counts c.args.scope)) fd.put_field base.at c.args.at words c.in_err-left.field-0.0 c.from_residual-in_err-left.result c.from_residual-in_err-left.ensures.1
+    (λ x us e. fd.name_opens c.args.source.now sp (counts c.args.scope) c.args.at base.at base.node _ c.in_ok-base.ensures.ok c.in_ok-base.ensures.next (omega (arith, c.in_ok-base.ensures.moves.low, c.in_ok-base.ensures.moves.high, ap a.height c.in_ok-base.ensures.ok.3))
+    (λ f. false≢true (sym c.if-is.false ∙ c.is.ensures.value.1 f)) (stops e)) (c.in_err-left.ensures.answer words sp)
+
+pub tables::name_field-returns-in_err-operations-clause-answer : goal.tables::name_field-returns-in_err-operations-clause-answer
+tables::name_field-returns-in_err-operations-clause-answer t c words sp =
+    let base = c.in_ok-base.base in
+    let left = c.in_ok-left.left in
+    part_stopped expr_view (fd.after_field (counts c.args.scope)) fd.put_field left.at c.args.at words c.in_err-operations.field-0.0 c.from_residual-in_err-operations.result c.from_residual-in_err-operations.ensures.1
+    (λ x us e. fd.name_opens c.args.source.now sp (counts c.args.scope) c.args.at base.at base.node _ c.in_ok-base.ensures.ok c.in_ok-base.ensures.next (omega (arith, c.in_ok-base.ensures.moves.low, c.in_ok-base.ensures.moves.high, ap a.height c.in_ok-base.ensures.ok.3))
+    (λ f. false≢true (sym c.if-is.false ∙ c.is.ensures.value.1 f)) (thens (c.in_ok-left.ensures.answer words sp) (stops e))) (c.in_err-operations.ensures.answer words sp)
+
+pub tables::name_field-returns-clause-answer : goal.tables::name_field-returns-clause-answer
+tables::name_field-returns-clause-answer t c words sp o more =
+    let base = c.in_ok-base.base in
+    let whole = c.in_ok-operations.field-0 in
+    fd.name_opens c.args.source.now sp (counts c.args.scope) c.args.at base.at base.node _ c.in_ok-base.ensures.ok c.in_ok-base.ensures.next (omega (arith, c.in_ok-base.ensures.moves.low, c.in_ok-base.ensures.moves.high, ap a.height c.in_ok-base.ensures.ok.3))
+    (λ f. false≢true (sym c.if-is.false ∙ c.is.ensures.value.1 f)) (thens (c.in_ok-left.ensures.answer words sp) (thens (c.in_ok-operations.ensures.answer words sp)
+    (fd.item_closes words (counts c.args.scope) whole.at _ whole.node _ o c.item.ensures.node c.item.ensures.at more)))
+
+pub tables::named_field-returns-in_err-may_nest-clause-answer : goal.tables::named_field-returns-in_err-may_nest-clause-answer
+tables::named_field-returns-in_err-may_nest-clause-answer t c words sp =
+    part_faulted (fd.after_field (counts c.args.scope)) fd.put_field c.args.at words faults.TooDeep c.args.at (200 < c.args.scope.depth + 1) c.in_err-may_nest.field-0.0 c.from_residual.result c.from_residual.ensures.1 c.in_err-may_nest.ensures.err
+    (λ over. fd.name_deep sp (counts c.args.scope) c.args.at c.requires.here (omega (arith, over)))
+
+pub tables::named_field-returns-in_err-value-clause-answer : goal.tables::named_field-returns-in_err-value-clause-answer
+tables::named_field-returns-in_err-value-clause-answer t c words sp =
+    part_stopped expr_view (fd.after_field (counts c.args.scope)) fd.put_field (c.args.at + 2) c.args.at words c.in_err-value.field-0.0 c.from_residual-in_err-value.result c.from_residual-in_err-value.ensures.1
+    (λ x us e. fd.named_opens c.args.source.now sp (counts c.args.scope) c.args.at c.in_ok-name_at.field-0 _ c.in_ok-name_at.ensures.ok (omega (arith, c.in_ok-may_nest.ensures.ok)) c.requires.assign (stops e)) (c.in_err-value.ensures.answer words sp)
+
+pub tables::named_field-returns-clause-answer : goal.tables::named_field-returns-clause-answer
+tables::named_field-returns-clause-answer t c words sp o more =
+    fd.named_opens c.args.source.now sp (counts c.args.scope) c.args.at c.in_ok-name_at.field-0 _ c.in_ok-name_at.ensures.ok (omega (arith, c.in_ok-may_nest.ensures.ok)) c.requires.assign (thens (c.in_ok-value.ensures.answer words sp)
+    (fd.keyed_closes (counts c.args.scope) _ _ c.in_ok-value.value.node o (fd.same_key _ c.line_at.result c.in_ok-name_at.field-0 c.line_at.ensures) more))
+
+pub tables::named_field-returns-clause-moves : goal.tables::named_field-returns-clause-moves
+tables::named_field-returns-clause-moves t c = record {
+  forth = omega (arith, c.in_ok-value.ensures.moves.forth);
+  within = c.in_ok-value.ensures.moves.within;
+  high = omega (arith, fd.tall_named c.line_at.result c.in_ok-name_at.field-0 c.in_ok-value.value.node, c.in_ok-value.ensures.moves.high, c.max.ensures);
+  low = omega (arith, c.in_ok-value.ensures.moves.low, c.in_ok-may_nest.ensures.ok, c.max.ensures);
 }
