@@ -1,5 +1,5 @@
 -- Steps of expressions: numbers, constants, operators and lists of expressions.
-use Rattle.std.proofs.Common.{◌≡◌, ℕ, ℤ, suc, ◌+◌, ◌<◌, ◌≤◌, max, List, [], ◌∷◌, ◌++◌, Option, Some, None, Bool, true, false, Global, cond, leb, drop, refl, sym, ap, ◌∙◌, subst, arith, rules}
+use Rattle.std.proofs.Common.{◌≡◌, ℕ, ℤ, suc, ◌+◌, ◌<◌, ◌≤◌, max, List, [], ◌∷◌, ◌++◌, Option, Some, None, Result, Bool, true, false, Global, cond, leb, drop, refl, sym, ap, ◌∙◌, subst, arith, rules}
 use Rattle.std.specs.Prelude.{slice_get}
 use Rattle.std.specs.declared.boxed.Box.{Box}
 use Rattle.std.proofs.lemmas.Bool.{false≢true}
@@ -7,7 +7,9 @@ use Rattle.std.proofs.lemmas.Option.{none-some, same_Some}
 use Rattle.lua_token.specs.declared.kind.Kind.{Kind}
 use Rattle.lua_token.specs.declared.kind.Kind.TheVariants as kinds
 use Rattle.lua_token.specs.declared.token.Token.{Token}
+use Rattle.lua_tree.specs.declared.source.Read.{Read}
 use Rattle.lua_tree.specs.declared.source.Source.{Source}
+use Rattle.lua_tree.specs.declared.stop.Stop.{Stop}
 use Rattle.lua_tree.specs.declared.tree.BinOp.{BinOp}
 use Rattle.lua_tree.specs.declared.tree.UnOp.{UnOp}
 use Rattle.lua_tree.specs.declared.tree.UnOp.TheVariants as unary_ops
@@ -26,13 +28,13 @@ use Rattle.lua_tree.specs.Reading.{Sort, Prog, Value, give, take, look, then, de
 use Rattle.lua_tree.specs.Spelled.{Spelled, IsWord, kind_at, kind_of, word_of_kind, number_of_kind, spot_behind}
 use Rattle.lua_tree.specs.Begins.{ConstantAt, NoOperatorAt, UnaryAt, is_number, unary_kind}
 use Rattle.lua_tree.specs.View.{binary_view, unary_view, expr_kind_view, expr_view, exprs_view}
-use Rattle.lua_tree.specs.Answer.{as_part, expr_tall, fault_of, limits, line_of}
+use Rattle.lua_tree.specs.Answer.{Answers, as_part, expr_tall, exprs_tall, fault_of, limits, line_of}
 use Rattle.lua_tree.proofs.Places.{here, past, before_at}
 use Rattle.lua_tree.proofs.Taking.{keeps_deep, keeps_free, look_at, passed_at, passes_deep, take_at}
 use Rattle.lua_tree.proofs.Marks.{IsKey, Stands, key_stands, kind_token}
 use Rattle.lua_tree.proofs.Descent.{ended}
 use Rattle.lua_tree.proofs.KindWords.{WordFor, word_for}
-use Rattle.lua_tree.proofs.Lists.{exprs_last, exprs_onto, part_of_part}
+use Rattle.lua_tree.proofs.Lists.{exprs_end, exprs_last, exprs_onto, exprs_tall_last, part_of_part}
 use Rattle.lua_tree.proofs.Others.{look_as}
 use Rattle.lua_tree.proofs.Steps.{leb_false, leb_true}
 use Rattle.lua_tree.proofs.Tall.{tall_binary, tall_unary}
@@ -203,3 +205,45 @@ pub high_binary : (l n m : ℕ) (op : BinOp) (a b : Box Expr Global) (d e : Expr
 high_binary l n m op a b d e is of h i =
     let v = ap height (view_binary l op a b) in let x = ap expr_tall is in let z = ap expr_tall of in
     let y = tall_binary l (binary_view op) (expr_view a.value) (expr_view b.value) in omega (arith, v, x, y, z, h, i)
+
+-- the first expression of a list, and one more
+pub first_expr : {p : Prog some_exprs} {ts : List Tok} (us vs : List Expr) (e : Expr) (r : Answer t.Exprs) → us ≡ vs ++ e ∷ [] → vs ≡ []
+    → Reads limits some_exprs p ts (as_part (t.expr_and (expr_view e)) r) → Reads limits some_exprs p ts (as_part (exprs_onto us) r)
+first_expr {p = p} {ts = ts} us vs e r is none d =
+    subst (λ (xs : List Expr). Reads limits some_exprs p ts (as_part (exprs_onto xs) r)) (sym (is ∙ ap (λ (xs : List Expr). xs ++ e ∷ []) none)) (one_expr e r d)
+
+pub first_expr_high : (us vs : List Expr) (e : Expr) (n : ℕ) → us ≡ vs ++ e ∷ [] → vs ≡ [] → n ≡ expr_tall e → n ≡ exprs_tall us
+first_expr_high us vs e n is none h =
+    let same : us ≡ e ∷ [] = is ∙ ap (λ (xs : List Expr). xs ++ e ∷ []) none in
+    let x = ap exprs_tall same in omega (arith, x, h)
+
+pub longer_exprs : {p : Prog some_exprs} {ts : List Tok} (us es : List Expr) (e : Expr) (r : Answer t.Exprs) → us ≡ es ++ e ∷ []
+    → Reads limits some_exprs p ts (as_part (exprs_onto es) (as_part (t.expr_and (expr_view e)) r)) → Reads limits some_exprs p ts (as_part (exprs_onto us) r)
+longer_exprs {p = p} {ts = ts} us es e r is d = subst (λ (xs : List Expr). Reads limits some_exprs p ts (as_part (exprs_onto xs) r)) (sym is) (one_more_expr es e r d)
+
+pub longer_exprs_high : (us es : List Expr) (e : Expr) (k n m : ℕ) → us ≡ es ++ e ∷ [] → k ≡ max n m → n ≡ exprs_tall es → m ≡ expr_tall e → k ≡ exprs_tall us
+longer_exprs_high us es e k n m is g h i =
+    let x = ap exprs_tall is in let y = exprs_tall_last es e in omega (arith, x, y, g, h, i)
+
+-- the list of what was read
+pub exprs_are : {p : Prog some_exprs} {ts rest : List Tok} (us es : List Expr) → us ≡ es → Reads limits some_exprs p ts (got (exprs_onto es t.no_exprs) rest)
+    → Reads limits some_exprs p ts (got (exprs_view us) rest)
+exprs_are {p = p} {ts = ts} {rest = rest} us es is d =
+    subst (λ (xs : t.Exprs). Reads limits some_exprs p ts (got xs rest)) (exprs_end es ∙ ap exprs_view (sym is)) d
+
+-- an expression of another level and with other counts, which are the same
+pub at_level : (p q : ℕ) (c d : Counts) (at : ℕ) (words : List Tok) (result : Result (Read Expr) Stop) → p ≡ q → c ≡ d
+    → Answers expr_view (program (expr p c)) at result words → Answers expr_view (program (expr q d)) at result words
+at_level p q c d at words result e f h =
+    subst (λ (n : ℕ). Answers expr_view (program (expr n d)) at result words) e (subst (λ (x : Counts). Answers expr_view (program (expr p x)) at result words) f h)
+
+pub unary_is : (l m : ℕ) (op : UnOp) (b : Box Expr Global) (e : Expr) → b.value ≡ e → l ≡ m
+    → t.unary m (unary_view op) (expr_view e) ≡ expr_view (record { line = l; what = kinds_of.Unary op b })
+unary_is l m op b e is line =
+    ap (λ (n : ℕ). t.unary n (unary_view op) (expr_view e)) (sym line) ∙ ap (λ (d : Expr). t.unary l (unary_view op) (expr_view d)) (sym is) ∙ sym (view_unary l op b)
+
+pub binary_is : (l m : ℕ) (op : BinOp) (a b : Box Expr Global) (d e : Expr) → a.value ≡ d → b.value ≡ e → l ≡ m
+    → expr_view (record { line = l; what = kinds_of.Binary op a b }) ≡ t.binary m (binary_view op) (expr_view d) (expr_view e)
+binary_is l m op a b d e is of line =
+    view_binary l op a b ∙ ap (λ (x : Expr). t.binary l (binary_view op) (expr_view x) (expr_view b.value)) is
+    ∙ ap (λ (x : Expr). t.binary l (binary_view op) (expr_view d) (expr_view x)) of ∙ ap (λ (n : ℕ). t.binary n (binary_view op) (expr_view d) (expr_view e)) line

@@ -42,3 +42,4 @@ pub mod LoopSteps
 pub mod ExpressionSteps
 pub mod TableSteps
 pub mod FieldSteps
+pub mod FunctionSteps

@@ -13,3 +13,4 @@ pub mod Spelled
 pub mod Answer
 pub mod Begins
 pub mod Parsed
+pub mod Heads

@@ -142,18 +142,21 @@ fn operand(source: &Source, at: usize, scope: Scope) -> Result<Read<Expr>, Stop>
     ensures answer { OfWords source.now
         (Answers expr_view (program (first_rule (counts scope))) at result) }
 {
-    match source.kind_at(at) {
-        Some(Kind::Function) => function_expression(source, at, scope),
-        Some(Kind::OpenBrace) => table(source, at, scope),
-        Some(Kind::Not) => unary(source, at, scope, UnOp::Not),
-        Some(Kind::Hash) => unary(source, at, scope, UnOp::Length),
-        Some(Kind::Minus) => unary(source, at, scope, UnOp::Minus),
-        Some(Kind::Dots) => dots(source, at, scope),
-        Some(Kind::Str) => string(source, at, scope),
-        Some(Kind::Nil) => constant(source, at, scope, ExprKind::Nil),
-        Some(Kind::True) => constant(source, at, scope, ExprKind::True),
-        Some(Kind::False) => constant(source, at, scope, ExprKind::False),
-        Some(Kind::Number(_)) => number(source, at, scope),
+    let Some(kind) = source.kind_at(at) else {
+        return Err(Stop::At(Fault::Unexpected, at));
+    };
+    match kind {
+        Kind::Function => function_expression(source, at, scope),
+        Kind::OpenBrace => table(source, at, scope),
+        Kind::Not => unary(source, at, scope, UnOp::Not),
+        Kind::Hash => unary(source, at, scope, UnOp::Length),
+        Kind::Minus => unary(source, at, scope, UnOp::Minus),
+        Kind::Dots => dots(source, at, scope),
+        Kind::Str => string(source, at, scope),
+        Kind::Nil => constant(source, at, scope, ExprKind::Nil),
+        Kind::True => constant(source, at, scope, ExprKind::True),
+        Kind::False => constant(source, at, scope, ExprKind::False),
+        Kind::Number(_) => number(source, at, scope),
         _ => prefix_expression(source, at, scope, Position::Operand),
     }
 }

@@ -1,11 +1,13 @@
-use Rattle.std.proofs.Common.{◌≡◌, ◌+◌, ◌<◌, ◌≤◌, ℕ, Some, ap, refl, sym, ◌∙◌, arith, subst}
+use Rattle.std.proofs.Common.{◌≡◌, ◌+◌, ◌<◌, ◌≤◌, ℕ, List, Some, ap, refl, sym, ◌∙◌, arith, subst}
 use Rattle.std.proofs.lemmas.Option.{same_Some}
 use Rattle.lua_token.proofs.Values.{one_value}
 use Rattle.lua_token.specs.Value.{HasValue}
 use Rattle.lua_token.specs.declared.token.Token.{Token}
 use Rattle.lua_tree.specs.declared.stop.Fault.TheVariants as faults
 use Rattle.lua_tree.specs.Tree as t
+use Rattle.std.specs.Prelude.{slice_get}
 use Rattle.lua_tree.specs.View.{expr_view}
+use Rattle.lua_tree.specs.Answer.{line_of}
 use Rattle.lua_tree.proofs.Taking.{look_at, passed_at, take_at, keeps_deep, passes_deep}
 use Rattle.lua_tree.proofs.Marks.{str_stands}
 use Rattle.lua_tree.proofs.Views.{view_str}
@@ -29,4 +31,4 @@ returns-clause-answer c words sp =
     let token = same_Some h.0 found.0 (sym h.2 ∙ found.1) in
     let value = one_value c.args.source.now.bytes.now found.0 h.1 c.in_ok-string_at.field-0 (subst (λ (u : Token). HasValue c.args.source.now.bytes.now u h.1) token h.3) found.3 in
     look_at h.4.is (take_at h.4.is (keeps_deep _ (omega (arith, c.in_ok-may_nest.ensures.ok)))
-    (ended c.args.at c.leaf.result.at words (ap (λ l. t.str l h.1) h.4.line ∙ (ap (t.str _) value ∙ (sym (view_str _ _) ∙ sym c.leaf.ensures.view))) (sym c.leaf.ensures.at)))
+    (ended c.args.at c.leaf.result.at words (ap (λ l. t.str l h.1) h.4.line ∙ (ap (λ (x : List ℕ). t.str (line_of (slice_get c.args.source.now.tokens.now c.args.at)) x) value ∙ (sym (view_str _ _) ∙ sym c.leaf.ensures.view))) (sym c.leaf.ensures.at)))
