@@ -83,7 +83,8 @@ fn else_part(source: &Source, at: usize, scope: Scope) -> Result<Read<Option<Blo
     requires here { (kind_at source.now.tokens.now at ≡ Some Kind.ElseIf) → ⊥ }
     ensures moves { IfOk result (Moves source.now.tokens.now at scope.depth else_tall) }
     ensures answer { OfWords source.now
-        (Answers (λ o. else_of (option_map block_view o)) (program (more_arms (counts scope))) at result) }
+        (Answers (λ o. else_of (option_map block_view o)) (program (more_arms (counts scope)))
+            at result) }
 {
     if !source.is(at, Kind::Else) {
         return Ok(Read {

@@ -80,7 +80,8 @@ fn base_expression(
     requires fits { Fits scope }
     ensures moves { IfOk result (Moves source.now.tokens.now at scope.depth expr_tall) }
     ensures answer { OfWords source.now
-        (Parts (λ e. program (suffixes_rule (place_of position) (counts scope) (expr_view e))) (λ e whole. whole)
+        (Parts (λ e. program (suffixes_rule (place_of position) (counts scope) (expr_view e)))
+            (λ e whole. whole)
             (program (prefix (place_of position) (counts scope))) at result) }
 {
     if source.is(at, Kind::OpenParen) {
@@ -103,7 +104,9 @@ pub(crate) fn suffixes(
     requires behind { Behind source.now.tokens.now scope.depth first }
     ensures moves { IfOk result (Passes source.now.tokens.now first.at scope.depth expr_tall) }
     ensures answer { OfWords source.now
-        (Answers expr_view (program (suffixes_rule (place_of position) (counts scope) (expr_view first.node))) first.at result) }
+        (Answers expr_view
+            (program (suffixes_rule (place_of position) (counts scope) (expr_view first.node)))
+            first.at result) }
 {
     let mut base = first;
     'suffixes: while goes_on(source, base.at) {
@@ -140,7 +143,8 @@ fn parenthesized(
     requires here { kind_at source.now.tokens.now at ≡ Some Kind.OpenParen }
     ensures moves { IfOk result (Moves source.now.tokens.now at scope.depth expr_tall) }
     ensures answer { OfWords source.now
-        (Parts (λ e. program (suffixes_rule (place_of position) (counts scope) (expr_view e))) (λ e whole. whole)
+        (Parts (λ e. program (suffixes_rule (place_of position) (counts scope) (expr_view e)))
+            (λ e whole. whole)
             (program (prefix (place_of position) (counts scope))) at result) }
 {
     let outer = scope.held(position.holds_parentheses());
@@ -193,8 +197,10 @@ fn suffix(
     requires here { begins_suffix (kind_at source.now.tokens.now base.at) ≡ true }
     ensures moves { IfOk result (Moves source.now.tokens.now base.at scope.depth expr_tall) }
     ensures answer { OfWords source.now
-        (Parts (λ e. program (suffixes_rule (place_of position) (counts scope) (expr_view e))) (λ e whole. whole)
-            (program (suffixes_rule (place_of position) (counts scope) (expr_view base.node))) base.at result) }
+        (Parts (λ e. program (suffixes_rule (place_of position) (counts scope) (expr_view e)))
+            (λ e whole. whole)
+            (program (suffixes_rule (place_of position) (counts scope) (expr_view base.node)))
+            base.at result) }
 {
     match source.kind_at(base.at) {
         Some(Kind::OpenBracket) => index(source, base, scope),
