@@ -21,16 +21,16 @@ use Rattle.lua_tree.specs.declared.tree.ExprKind.TheVariants as kinds_of
 use Rattle.lua_tree.specs.declared.stop.Fault.TheVariants as faults
 use Rattle.lua_tree.specs.Tree as t
 use Rattle.lua_tree.specs.Words as w
-use Rattle.lua_tree.specs.Words.{Word, Spot, Tok, tok, key}
+use Rattle.lua_tree.specs.Words.{Word, Spot, Tok, tok, key, word_of, spot_of}
 use Rattle.lua_tree.specs.Grammar.{level, right_level, unary_level}
 use Rattle.lua_tree.specs.Attributes.{Counts, height, nodes}
-use Rattle.lua_tree.specs.Reading.{Sort, Prog, Value, give, take, look, then, deep, down, an_expr, some_exprs, expr, more, more_of, more_exprs, more_exprs_of, exprs, first, first_of, prefix, in_expr, program, Answer, got, stuck, over, Reads, gives, thens}
+use Rattle.lua_tree.specs.Reading.{Sort, Prog, Value, give, take, look, then, deep, down, an_expr, some_exprs, expr, more, more_of, more_exprs, more_exprs_of, exprs, first, first_of, prefix, prefix_of, in_expr, program, Answer, got, stuck, unexpected, over, Reads, gives, fails, thens, stops}
 use Rattle.lua_tree.specs.Spelled.{Spelled, IsWord, kind_at, kind_of, word_of_kind, number_of_kind, spot_behind}
 use Rattle.lua_tree.specs.Begins.{ConstantAt, NoOperatorAt, UnaryAt, is_number, unary_kind}
 use Rattle.lua_tree.specs.View.{binary_view, unary_view, expr_kind_view, expr_view, exprs_view}
 use Rattle.lua_tree.specs.Answer.{Answers, as_part, expr_tall, exprs_tall, fault_of, limits, line_of}
 use Rattle.lua_tree.proofs.Places.{here, past, before_at}
-use Rattle.lua_tree.proofs.Taking.{keeps_deep, keeps_free, look_at, passed_at, passes_deep, take_at}
+use Rattle.lua_tree.proofs.Taking.{just, keeps_deep, keeps_free, look_at, passed_at, passes_deep, take_at}
 use Rattle.lua_tree.proofs.Marks.{IsKey, Stands, key_stands, kind_token}
 use Rattle.lua_tree.proofs.Descent.{ended}
 use Rattle.lua_tree.proofs.KindWords.{WordFor, word_for}
@@ -247,3 +247,45 @@ pub binary_is : (l m : ℕ) (op : BinOp) (a b : Box Expr Global) (d e : Expr) �
 binary_is l m op a b d e is of line =
     view_binary l op a b ∙ ap (λ (x : Expr). t.binary l (binary_view op) (expr_view x) (expr_view b.value)) is
     ∙ ap (λ (x : Expr). t.binary l (binary_view op) (expr_view d) (expr_view x)) of ∙ ap (λ (n : ℕ). t.binary n (binary_view op) (expr_view d) (expr_view e)) line
+
+-- how high they are, of what lies in boxes
+pub tall_at_unary : (l : ℕ) (op : UnOp) (b : Box Expr Global) (e : Expr) → b.value ≡ e → expr_tall (record { line = l; what = kinds_of.Unary op b }) ≡ suc (expr_tall e)
+tall_at_unary l op b e is = let h = high_unary l (expr_tall e) op b e is refl in omega (arith, h)
+
+pub tall_at_binary : (l : ℕ) (op : BinOp) (a b : Box Expr Global) (d e : Expr) → a.value ≡ d → b.value ≡ e
+    → expr_tall (record { line = l; what = kinds_of.Binary op a b }) ≡ suc (max (expr_tall d) (expr_tall e))
+tall_at_binary l op a b d e is of = let h = high_binary l (expr_tall d) (expr_tall e) op a b d e is of refl refl in omega (arith, h)
+
+-- ---- operands
+
+-- what begins no operand but a prefix expression
+pub first_goes : (c : Counts) (s : Spot) (k : Kind) (v : Word) → WordFor (Some k) v → (k ≡ kinds.Function → ⊥) → (k ≡ kinds.OpenBrace → ⊥) → (k ≡ kinds.Not → ⊥) → (k ≡ kinds.Hash → ⊥) → (k ≡ kinds.Minus → ⊥)
+    → (k ≡ kinds.Dots → ⊥) → (k ≡ kinds.Str → ⊥) → (k ≡ kinds.Nil → ⊥) → (k ≡ kinds.True → ⊥) → (k ≡ kinds.False → ⊥) → ((z : ℤ) → k ≡ kinds.Number z → ⊥)
+    → first_of c v s ≡ then (prefix in_expr c) give
+first_goes c s kinds.Function v e f b n h m d x i t u z = absurd (f refl)
+first_goes c s kinds.OpenBrace v e f b n h m d x i t u z = absurd (b refl)
+first_goes c s kinds.Not v e f b n h m d x i t u z = absurd (n refl)
+first_goes c s kinds.Hash v e f b n h m d x i t u z = absurd (h refl)
+first_goes c s kinds.Minus v e f b n h m d x i t u z = absurd (m refl)
+first_goes c s kinds.Dots v e f b n h m d x i t u z = absurd (d refl)
+first_goes c s kinds.Str v e f b n h m d x i t u z = absurd (x refl)
+first_goes c s kinds.Nil v e f b n h m d x i t u z = absurd (i refl)
+first_goes c s kinds.True v e f b n h m d x i t u z = absurd (t refl)
+first_goes c s kinds.False v e f b n h m d x i t u z = absurd (u refl)
+first_goes c s (kinds.Number y) v e f b n h m d x i t u z = absurd (z y refl)
+first_goes c s kinds.Name v e f b n h m d x i t u z = ap (λ (v : Word). first_of c v s) e.1
+first_goes c s k v e f b n h m d x i t u z = ap (λ (v : Word). first_of c v s) e
+
+-- the end begins none
+pub first_ends : {bytes : List ℕ} {before : ℕ} {ts : List Token} {words : List Tok} → Spelled bytes before ts words → (c : Counts) (at : ℕ) → None ≡ kind_at ts at
+    → Reads limits an_expr (look (first_of c)) (drop at words) (stuck unexpected (drop at words))
+first_ends {ts = ts} {words = words} sp c at e =
+    let end = subst (λ (o : Option Kind). WordFor o (word_of (drop at words))) (sym e) (word_for sp at) in
+    look_as (ap (λ (v : Word). first_of c v (spot_of (drop at words))) end) (stops (look_as (ap (λ (v : Word). prefix_of in_expr c v (spot_of (drop at words))) end) fails))
+
+-- another token begins a prefix expression
+pub first_prefix : {bytes : List ℕ} {before : ℕ} {ts : List Token} {words : List Tok} → Spelled bytes before ts words → (c : Counts) (at : ℕ) (k : Kind) → Some k ≡ kind_at ts at
+    → ((s : Spot) (v : Word) → WordFor (Some k) v → first_of c v s ≡ then (prefix in_expr c) give)
+    → (r : Answer t.Expr) → Reads limits an_expr (program (prefix in_expr c)) (drop at words) r → Reads limits an_expr (look (first_of c)) (drop at words) r
+first_prefix {words = words} sp c at k e goes r d =
+    look_as (goes _ _ (subst (λ (o : Option Kind). WordFor o (word_of (drop at words))) (sym e) (word_for sp at))) (just d)

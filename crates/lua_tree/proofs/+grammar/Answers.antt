@@ -34,6 +34,9 @@ use Rattle.lua_tree.proofs.FieldSteps as fd
 use Rattle.lua_tree.specs.Answer.{as_part}
 use Rattle.lua_tree.specs.View.{field_view}
 use Rattle.lua_tree.proofs.Descent.{greater_is}
+use Rattle.lua_tree.specs.Grammar.{right_level, unary_level}
+use Rattle.lua_tree.specs.View.{binary_view}
+use Rattle.lua_tree.proofs.ExpressionSteps as es
 use Rattle.lua_tree.proofs.+grammar.Goals as goal
 
 -- ---- statements
@@ -1080,3 +1083,152 @@ tables::named_field-returns-clause-moves t c = record {
   high = omega (arith, fd.tall_named c.line_at.result c.in_ok-name_at.field-0 c.in_ok-value.value.node, c.in_ok-value.ensures.moves.high, c.max.ensures);
   low = omega (arith, c.in_ok-value.ensures.moves.low, c.in_ok-may_nest.ensures.ok, c.max.ensures);
 }
+
+-- ---- expressions
+
+pub expressions::expression-returns-in_err-left-clause-answer : goal.expressions::expression-returns-in_err-left-clause-answer
+expressions::expression-returns-in_err-left-clause-answer t c words sp =
+    stopped {whole = r.program (r.expr c.args.level (counts c.args.scope))} expr_view expr_view c.args.at c.args.at words c.in_err-left.field-0.0 c.from_residual.result c.from_residual.ensures.1
+    (λ x us e. stops e) (c.in_err-left.ensures.answer words sp)
+
+pub expressions::expression-returns-clause-answer : goal.expressions::expression-returns-clause-answer
+expressions::expression-returns-clause-answer t c words sp =
+    onward {p = r.program (r.expr c.args.level (counts c.args.scope))} expr_view c.in_ok-left.left.at c.args.at words c.operations.result
+    (λ o d. thens (c.in_ok-left.ensures.answer words sp) (just d)) (c.operations.ensures.answer words sp)
+
+pub expressions::operations-operators-preserved : goal.expressions::operations-operators-preserved
+expressions::operations-operators-preserved t c = record {
+  behind = search rules;
+  forth = search rules;
+  so_far = λ words sp o d. c.operators.invariant.so_far words sp o (es.as_it_was o (c.in_ok-left.ensures.answer c.args.level c.in-Some.ensures.some.1 words sp o d));
+}
+
+pub expressions::operations-returns-in_err-left-clause-answer : goal.expressions::operations-returns-in_err-left-clause-answer
+expressions::operations-returns-in_err-left-clause-answer t c words sp =
+    let l = c.operators in
+    let p = r.program (r.more c.args.level (counts c.args.scope) (expr_view l.left.node)) in
+    stopped {p = p} {whole = r.program (r.more c.args.level (counts c.args.scope) (expr_view c.args.first.node))} expr_view expr_view l.left.at c.args.first.at words c.in_err-left.field-0.0 c.from_residual.result c.from_residual.ensures.1
+    (λ x us e. l.invariant.so_far words sp (r.stuck x us) e)
+    (of_part p (λ (e : Expr). r.program (r.more c.args.level (counts c.args.scope) (expr_view e))) (λ (e : Expr) (whole : t.Expr). whole) expr_view l.left.at words c.in_err-left.field-0.0 (c.in_err-left.ensures.answer c.args.level c.in-Some.ensures.some.1 words sp))
+
+pub expressions::operations-returns-clause-answer : goal.expressions::operations-returns-clause-answer
+expressions::operations-returns-clause-answer t c words sp =
+    let l = c.operators in
+    l.invariant.so_far words sp _ (es.no_more sp l.left.at c.args.level (counts c.args.scope) (expr_view l.left.node) (c.operator_at.ensures.none c.in_default.is))
+
+pub expressions::operation-returns-in_err-may_nest-clause-answer : goal.expressions::operation-returns-in_err-may_nest-clause-answer
+expressions::operation-returns-in_err-may_nest-clause-answer t c p le words sp =
+    let k = counts c.args.scope in
+    let left = c.args.left in
+    let h = es.operator_stands sp left.at c.requires.here.0 (binary_view c.args.op) c.requires.here.1 c.requires.here.2 in
+    part_faulted {whole = r.program (r.more p k (expr_view left.node))} (λ e. r.program (r.more p k (expr_view e))) (λ e whole. whole) left.at words faults.TooDeep left.at (200 < c.args.scope.depth + 1 + left.height) c.in_err-may_nest.field-0.0 c.from_residual.result c.from_residual.ensures.1 c.in_err-may_nest.ensures.err
+    (λ over. look_at h.is (es.more_binary p k (expr_view left.node) (binary_view c.args.op) h.spot le (passed_at h.is (passes_deep _ (omega (arith, over, c.requires.behind.high))))))
+
+pub expressions::operation-returns-in_err-right-clause-answer : goal.expressions::operation-returns-in_err-right-clause-answer
+expressions::operation-returns-in_err-right-clause-answer t c p le words sp =
+    let k = counts c.args.scope in
+    let left = c.args.left in
+    let h = es.operator_stands sp left.at c.requires.here.0 (binary_view c.args.op) c.requires.here.1 c.requires.here.2 in
+    part_stopped {whole = r.program (r.more p k (expr_view left.node))} expr_view (λ e. r.program (r.more p k (expr_view e))) (λ e whole. whole) (left.at + 1) left.at words c.in_err-right.field-0.0 c.from_residual-in_err-right.result c.from_residual-in_err-right.ensures.1
+    (λ x us e. look_at h.is (es.more_binary p k (expr_view left.node) (binary_view c.args.op) h.spot le (take_at h.is (keeps_deep _ (omega (arith, c.in_ok-may_nest.ensures.ok, c.requires.behind.high))) (next left.at words (stops e)))))
+    (es.at_level _ (right_level (binary_view c.args.op)) _ (r.down k) (left.at + 1) words (Err c.in_err-right.field-0.0) c.priority_of.ensures.right c.deeper.ensures.counts (c.in_err-right.ensures.answer words sp))
+
+pub expressions::operation-returns-clause-moves : goal.expressions::operation-returns-clause-moves
+expressions::operation-returns-clause-moves t c = record {
+  forth = omega (arith, c.in_ok-right.ensures.moves.forth);
+  within = c.in_ok-right.ensures.moves.within;
+  high = omega (arith, es.tall_at_binary c.line_at-line.result c.args.op c.in_ok-left.left c.in_ok-right-2.right c.args.left.node c.in_ok-right.right.node c.in_ok-left.ensures.ok c.in_ok-right-2.ensures.ok, c.max-height.ensures, c.in_ok-right.ensures.moves.high, c.requires.behind.high);
+  low = omega (arith, c.max-height.ensures, c.in_ok-right.ensures.moves.low, c.deeper.ensures.depth, c.in_ok-may_nest.ensures.ok);
+}
+
+pub expressions::operation-returns-clause-answer : goal.expressions::operation-returns-clause-answer
+expressions::operation-returns-clause-answer t c p le words sp o d =
+    let k = counts c.args.scope in
+    let left = c.args.left in
+    let op = binary_view c.args.op in
+    let right = c.in_ok-right.right in
+    let h = es.operator_stands sp left.at c.requires.here.0 op c.requires.here.1 c.requires.here.2 in
+    let e = es.at_level _ (right_level op) _ (r.down k) (left.at + 1) words (Ok right) c.priority_of.ensures.right c.deeper.ensures.counts (c.in_ok-right.ensures.answer words sp) in
+    let same = es.binary_is c.line_at-line.result h.spot.line c.args.op c.in_ok-left.left c.in_ok-right-2.right left.node right.node c.in_ok-left.ensures.ok c.in_ok-right-2.ensures.ok (c.line_at-line.ensures ∙ sym h.line) in
+    es.as_it_is o (look_at h.is (es.more_binary p k (expr_view left.node) op h.spot le (take_at h.is (keeps_deep _ (omega (arith, c.in_ok-may_nest.ensures.ok, c.requires.behind.high)))
+    (next left.at words (thens e (just (subst (λ (a : t.Expr). r.Reads limits r.an_expr (r.program (r.more p k a)) (drop right.at words) o) same d)))))))
+
+pub expressions::unary-returns-in_err-may_nest-clause-answer : goal.expressions::unary-returns-in_err-may_nest-clause-answer
+expressions::unary-returns-in_err-may_nest-clause-answer t c words sp =
+    let u = es.unary_stands sp (counts c.args.scope) c.args.at c.args.op c.requires.here in
+    faulted {whole = r.program (r.first (counts c.args.scope))} expr_view c.args.at words faults.TooDeep c.args.at (200 < c.args.scope.depth + 2) c.in_err-may_nest.field-0.0 c.from_residual.result c.from_residual.ensures.1 c.in_err-may_nest.ensures.err
+    (λ over. u.begins _ (passed_at u.stands.is (passes_deep _ (omega (arith, over)))))
+
+pub expressions::unary-returns-in_err-operand-clause-answer : goal.expressions::unary-returns-in_err-operand-clause-answer
+expressions::unary-returns-in_err-operand-clause-answer t c words sp =
+    let u = es.unary_stands sp (counts c.args.scope) c.args.at c.args.op c.requires.here in
+    stopped {whole = r.program (r.first (counts c.args.scope))} expr_view expr_view (c.args.at + 1) c.args.at words c.in_err-operand.field-0.0 c.from_residual-in_err-operand.result c.from_residual-in_err-operand.ensures.1
+    (λ x us e. u.begins _ (take_at u.stands.is (keeps_deep _ (omega (arith, c.in_ok-may_nest.ensures.ok))) (next c.args.at words (stops e))))
+    (at_counts expr_view (r.expr unary_level) _ _ (c.args.at + 1) words (Err c.in_err-operand.field-0.0) c.deeper.ensures.counts (c.in_err-operand.ensures.answer words sp))
+
+pub expressions::unary-returns-clause-moves : goal.expressions::unary-returns-clause-moves
+expressions::unary-returns-clause-moves t c = record {
+  forth = omega (arith, c.in_ok-operand.ensures.moves.forth);
+  within = c.in_ok-operand.ensures.moves.within;
+  high = omega (arith, es.tall_at_unary c.line_at-line.result c.args.op c.in_ok-operand-2.operand c.in_ok-operand.operand.node c.in_ok-operand-2.ensures.ok, c.in_ok-operand.ensures.moves.high);
+  low = omega (arith, c.in_ok-operand.ensures.moves.low, c.deeper.ensures.depth, c.in_ok-may_nest.ensures.ok);
+}
+
+pub expressions::unary-returns-clause-answer : goal.expressions::unary-returns-clause-answer
+expressions::unary-returns-clause-answer t c words sp =
+    let u = es.unary_stands sp (counts c.args.scope) c.args.at c.args.op c.requires.here in
+    let operand = c.in_ok-operand.operand in
+    let e = at_counts expr_view (r.expr unary_level) _ _ (c.args.at + 1) words (Ok operand) c.deeper.ensures.counts (c.in_ok-operand.ensures.answer words sp) in
+    u.begins _ (take_at u.stands.is (keeps_deep _ (omega (arith, c.in_ok-may_nest.ensures.ok))) (next c.args.at words (thens e
+    (gave (es.unary_is c.line_at-line.result u.stands.spot.line c.args.op c.in_ok-operand-2.operand operand.node c.in_ok-operand-2.ensures.ok (c.line_at-line.ensures ∙ sym u.stands.line))))))
+
+pub expressions::expressions-returns-in_err-first-clause-answer : goal.expressions::expressions-returns-in_err-first-clause-answer
+expressions::expressions-returns-in_err-first-clause-answer t c words sp =
+    stopped {whole = r.program (r.exprs (counts c.args.scope))} expr_view exprs_view c.args.at c.args.at words c.in_err-first.field-0.0 c.from_residual.result c.from_residual.ensures.1
+    (λ x us e. stops e) (c.in_err-first.ensures.answer words sp)
+
+pub expressions::expressions-items-init : goal.expressions::expressions-items-init
+expressions::expressions-items-init t c = record {
+  forth = search rules;
+  within = search rules;
+  high = es.first_expr_high _ _ c.in_ok-first.first.node _ c.in_ok-push.ensures.items c.new-items.ensures.items c.in_ok-first.ensures.moves.high;
+  low = search rules;
+  so_far = λ words sp o d. es.first_expr _ _ c.in_ok-first.first.node o c.in_ok-push.ensures.items c.new-items.ensures.items (thens (c.in_ok-first.ensures.answer words sp) (given o d));
+}
+
+pub expressions::expressions-items-preserved : goal.expressions::expressions-items-preserved
+expressions::expressions-items-preserved t c = record {
+  forth = search rules;
+  within = search rules;
+  high = es.longer_exprs_high _ c.items.items.items c.in_ok-next.next.node _ _ _ c.in_ok-push-2.ensures.items c.max-height.ensures c.items.invariant.high c.in_ok-next.ensures.moves.high;
+  low = search rules;
+  so_far = λ words sp o d.
+    let l = c.items in
+    let h = key_stands sp l.end kinds.Comma tt (c.is.ensures.value.0 c.items-test.true) in
+    es.longer_exprs _ l.items.items c.in_ok-next.next.node o c.in_ok-push-2.ensures.items
+    (l.invariant.so_far words sp _ (look_at h.is (take_at h.is keeps_free (next l.end words (just (thens (c.in_ok-next.ensures.answer words sp) (given o d)))))));
+}
+
+pub expressions::expressions-returns-in_err-next-clause-answer : goal.expressions::expressions-returns-in_err-next-clause-answer
+expressions::expressions-returns-in_err-next-clause-answer t c words sp =
+    let l = c.items in
+    let h = key_stands sp l.end kinds.Comma tt (c.is.ensures.value.0 c.items-test.true) in
+    stopped {whole = r.program (r.exprs (counts c.args.scope))} expr_view exprs_view (l.end + 1) c.args.at words c.in_err-next.field-0.0 c.from_residual-in_err-next.result c.from_residual-in_err-next.ensures.1
+    (λ x us e. l.invariant.so_far words sp (r.stuck x us) (look_at h.is (take_at h.is keeps_free (next l.end words (just (stops e)))))) (c.in_err-next.ensures.answer words sp)
+
+pub expressions::expressions-returns-clause-answer : goal.expressions::expressions-returns-clause-answer
+expressions::expressions-returns-clause-answer t c words sp =
+    let l = c.items in
+    es.exprs_are _ l.items.items c.from_vec.ensures
+    (l.invariant.so_far words sp _ (look_as (others.more_exprs_other (counts c.args.scope) _ _ (no_key sp l.end kinds.Comma (key w.comma) refl (λ e. false≢true (sym c.items-test.false ∙ c.is.ensures.value.1 e)))) gives))
+
+pub expressions::operand-returns-in_default-clause-answer : goal.expressions::operand-returns-in_default-clause-answer
+expressions::operand-returns-in_default-clause-answer t c words sp = es.first_ends sp (counts c.args.scope) c.args.at (sym c.in_default.is ∙ c.kind_at.ensures.value)
+
+pub expressions::operand-returns-in_default-kind-clause-answer : goal.expressions::operand-returns-in_default-kind-clause-answer
+expressions::operand-returns-in_default-kind-clause-answer t c words sp =
+    let d = c.in_default-kind in
+    onward {p = r.program (r.first (counts c.args.scope))} {q = r.program (r.prefix r.in_expr (counts c.args.scope))} expr_view c.args.at c.args.at words c.prefix_expression.result
+    (es.first_prefix sp (counts c.args.scope) c.args.at c.in-Some.kind c.in-Some.ensures.value (λ s v e. es.first_goes (counts c.args.scope) s c.in-Some.kind v e
+    d.not-Function d.not-OpenBrace d.not-Not d.not-Hash d.not-Minus d.not-Dots d.not-Str d.not-Nil d.not-True d.not-False d.not-Number))
+    (c.prefix_expression.ensures.answer words sp)
