@@ -142,7 +142,7 @@ fn assignment(
     ensures room { IfOk result (λ read. scope.locals + declares read.node ≤ 200) }
     ensures answer { OfWords source.now
         (Answers stat_view (program (prefix_stat line (counts scope) (expr_view first.node)))
-            first.at result) }
+        first.at result) }
 {
     let mut targets = Vec::new(source.alloc);
     targets.push(first.node)?;
@@ -174,8 +174,8 @@ fn target(source: &Source, at: usize, scope: Scope) -> Result<Read<Expr>, Stop>
     ensures moves { IfOk result (Moves source.now.tokens.now at scope.depth expr_tall) }
     ensures answer { OfWords source.now
         (Parts (λ e. program (more_targets (counts scope))) (λ e rest. expr_and (expr_view e) rest)
-            (then (prefix targeted (counts scope)) (λ e. target_of (counts scope) e (shape e)))
-            at result) }
+        (then (prefix targeted (counts scope)) (λ e. target_of (counts scope) e (shape e)))
+        at result) }
 {
     let read = prefix_expression(source, at, scope, Position::Target)?;
     match shape_of(&read.node) {

@@ -59,7 +59,7 @@ fn arm(source: &Source, at: usize, scope: Scope) -> Result<Read<Arm>, Stop>
     ensures moves { IfOk result (Moves source.now.tokens.now at scope.depth arm_tall) }
     ensures answer { OfWords source.now
         (Parts (λ arm. program (more_arms (counts scope))) (λ arm rest. arm_view arm rest)
-            (program (arms_rule (counts scope))) at result) }
+        (program (arms_rule (counts scope))) at result) }
 {
     let test = expression(source, at, scope, 0)?;
     let at = source.expect(test.at, Kind::Then)?;
@@ -84,7 +84,7 @@ fn else_part(source: &Source, at: usize, scope: Scope) -> Result<Read<Option<Blo
     ensures moves { IfOk result (Moves source.now.tokens.now at scope.depth else_tall) }
     ensures answer { OfWords source.now
         (Answers (λ o. else_of (option_map block_view o)) (program (more_arms (counts scope)))
-            at result) }
+        at result) }
 {
     if !source.is(at, Kind::Else) {
         return Ok(Read {

@@ -80,7 +80,7 @@ pub(crate) fn operations(
     ensures moves { IfOk result (Passes source.now.tokens.now first.at scope.depth expr_tall) }
     ensures answer { OfWords source.now
         (Answers expr_view (program (more level (counts scope) (expr_view first.node))) first.at
-            result) }
+        result) }
 {
     let mut left = first;
     'operators: while let Some(op) = operator_at(source, left.at, level) {
@@ -114,7 +114,7 @@ fn operation(source: &Source, left: Read<Expr>, scope: Scope, op: BinOp) -> Resu
     ensures moves { IfOk result (Moves source.now.tokens.now left.at scope.depth expr_tall) }
     ensures answer { (p : ℕ) → p ≤ level_of op → OfWords source.now
         (Parts (λ e. program (more p (counts scope) (expr_view e))) (λ e whole. whole)
-            (program (more p (counts scope) (expr_view left.node))) left.at result) }
+        (program (more p (counts scope) (expr_view left.node))) left.at result) }
 {
     may_nest(scope.depth + 1 + left.height, left.at)?;
     let line = source.line_at(left.at);

@@ -156,8 +156,8 @@ fn step(source: &Source, at: usize, scope: Scope) -> Result<Read<Option<Expr>>, 
     ensures moves { IfOk result (Passes source.now.tokens.now at scope.depth step_tall) }
     ensures answer { (line : ℕ) (x : Bytes) (a b : Operand) → OfWords source.now
         (Parts (λ o. program (loop_block 1 (counts scope)))
-            (λ o body. num_for_of x a b (option_map expr_view o) body line)
-            (program (num_for_rest line x a b (counts scope))) at result) }
+        (λ o body. num_for_of x a b (option_map expr_view o) body line)
+        (program (num_for_rest line x a b (counts scope))) at result) }
 {
     if !source.is(at, Kind::Comma) {
         return Ok(Read {

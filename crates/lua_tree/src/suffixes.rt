@@ -81,8 +81,8 @@ fn base_expression(
     ensures moves { IfOk result (Moves source.now.tokens.now at scope.depth expr_tall) }
     ensures answer { OfWords source.now
         (Parts (λ e. program (suffixes_rule (place_of position) (counts scope) (expr_view e)))
-            (λ e whole. whole)
-            (program (prefix (place_of position) (counts scope))) at result) }
+        (λ e whole. whole)
+        (program (prefix (place_of position) (counts scope))) at result) }
 {
     if source.is(at, Kind::OpenParen) {
         parenthesized(source, at, scope, position)
@@ -105,8 +105,8 @@ pub(crate) fn suffixes(
     ensures moves { IfOk result (Passes source.now.tokens.now first.at scope.depth expr_tall) }
     ensures answer { OfWords source.now
         (Answers expr_view
-            (program (suffixes_rule (place_of position) (counts scope) (expr_view first.node)))
-            first.at result) }
+        (program (suffixes_rule (place_of position) (counts scope) (expr_view first.node)))
+        first.at result) }
 {
     let mut base = first;
     'suffixes: while goes_on(source, base.at) {
@@ -144,8 +144,8 @@ fn parenthesized(
     ensures moves { IfOk result (Moves source.now.tokens.now at scope.depth expr_tall) }
     ensures answer { OfWords source.now
         (Parts (λ e. program (suffixes_rule (place_of position) (counts scope) (expr_view e)))
-            (λ e whole. whole)
-            (program (prefix (place_of position) (counts scope))) at result) }
+        (λ e whole. whole)
+        (program (prefix (place_of position) (counts scope))) at result) }
 {
     let outer = scope.held(position.holds_parentheses());
     may_nest(outer.depth + 2, at)?;
@@ -198,9 +198,9 @@ fn suffix(
     ensures moves { IfOk result (Moves source.now.tokens.now base.at scope.depth expr_tall) }
     ensures answer { OfWords source.now
         (Parts (λ e. program (suffixes_rule (place_of position) (counts scope) (expr_view e)))
-            (λ e whole. whole)
-            (program (suffixes_rule (place_of position) (counts scope) (expr_view base.node)))
-            base.at result) }
+        (λ e whole. whole)
+        (program (suffixes_rule (place_of position) (counts scope) (expr_view base.node)))
+        base.at result) }
 {
     match source.kind_at(base.at) {
         Some(Kind::OpenBracket) => index(source, base, scope),
@@ -221,7 +221,7 @@ fn index(source: &Source, base: Read<Expr>, scope: Scope) -> Result<Read<Expr>, 
     ensures moves { IfOk result (Moves source.now.tokens.now base.at scope.depth expr_tall) }
     ensures answer { (k : Place) → OfWords source.now
         (Parts (λ e. program (suffixes_rule k (counts scope) (expr_view e))) (λ e whole. whole)
-            (program (suffixes_rule k (counts scope) (expr_view base.node))) base.at result) }
+        (program (suffixes_rule k (counts scope) (expr_view base.node))) base.at result) }
 {
     may_nest(scope.depth + 1 + base.height, base.at)?;
     let line = source.line_at(base.at);
@@ -282,8 +282,8 @@ fn method_call(source: &Source, object: Read<Expr>, scope: Scope) -> Result<Read
     ensures moves { IfOk result (Moves source.now.tokens.now object.at scope.depth expr_tall) }
     ensures answer { (k : Place) (c : Counts) → counts scope ≡ held (unfinished k a_call) c →
         OfWords source.now
-            (Parts (λ e. program (suffixes_rule k c (expr_view e))) (λ e whole. whole)
-            (program (suffixes_rule k c (expr_view object.node))) object.at result) }
+        (Parts (λ e. program (suffixes_rule k c (expr_view e))) (λ e whole. whole)
+        (program (suffixes_rule k c (expr_view object.node))) object.at result) }
 {
     may_nest(scope.depth + 1 + object.height, object.at)?;
     let name = source.name_at(object.at + 1)?;
@@ -312,8 +312,8 @@ fn call(source: &Source, callee: Read<Expr>, scope: Scope) -> Result<Read<Expr>,
     ensures moves { IfOk result (Moves source.now.tokens.now callee.at scope.depth expr_tall) }
     ensures answer { (k : Place) (c : Counts) → counts scope ≡ held (unfinished k a_call) c →
         OfWords source.now
-            (Parts (λ e. program (suffixes_rule k c (expr_view e))) (λ e whole. whole)
-            (program (suffixes_rule k c (expr_view callee.node))) callee.at result) }
+        (Parts (λ e. program (suffixes_rule k c (expr_view e))) (λ e whole. whole)
+        (program (suffixes_rule k c (expr_view callee.node))) callee.at result) }
 {
     let opening = callee.at;
     may_nest(scope.depth + 1 + callee.height, opening)?;

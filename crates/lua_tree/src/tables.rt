@@ -87,7 +87,7 @@ fn field(source: &Source, at: usize, scope: Scope) -> Result<Read<Field>, Stop>
     ensures moves { IfOk result (Moves source.now.tokens.now at scope.depth field_tall) }
     ensures answer { OfWords source.now
         (Parts (λ field. program (more_fields (counts scope))) (λ field rest. field_view field rest)
-            (program (fields_rule (counts scope))) at result) }
+        (program (fields_rule (counts scope))) at result) }
 {
     match source.kind_at(at) {
         Some(Kind::OpenBracket) => keyed_field(source, at, scope),
@@ -106,7 +106,7 @@ fn keyed_field(source: &Source, at: usize, scope: Scope) -> Result<Read<Field>, 
     ensures moves { IfOk result (Moves source.now.tokens.now at scope.depth field_tall) }
     ensures answer { OfWords source.now
         (Parts (λ field. program (more_fields (counts scope))) (λ field rest. field_view field rest)
-            (program (fields_rule (counts scope))) at result) }
+        (program (fields_rule (counts scope))) at result) }
 {
     may_nest(scope.depth + 1, at)?;
     let key = expression(source, at + 1, scope, 0)?;
@@ -130,7 +130,7 @@ fn name_field(source: &Source, at: usize, scope: Scope) -> Result<Read<Field>, S
     ensures moves { IfOk result (Moves source.now.tokens.now at scope.depth field_tall) }
     ensures answer { OfWords source.now
         (Parts (λ field. program (more_fields (counts scope))) (λ field rest. field_view field rest)
-            (program (fields_rule (counts scope))) at result) }
+        (program (fields_rule (counts scope))) at result) }
 {
     if source.is(at + 1, Kind::Assign) {
         return named_field(source, at, scope);
@@ -152,7 +152,7 @@ fn named_field(source: &Source, at: usize, scope: Scope) -> Result<Read<Field>, 
     ensures moves { IfOk result (Moves source.now.tokens.now at scope.depth field_tall) }
     ensures answer { OfWords source.now
         (Parts (λ field. program (more_fields (counts scope))) (λ field rest. field_view field rest)
-            (program (fields_rule (counts scope))) at result) }
+        (program (fields_rule (counts scope))) at result) }
 {
     may_nest(scope.depth + 1, at)?;
     let key = Expr {
