@@ -43,3 +43,4 @@ pub mod ExpressionSteps
 pub mod TableSteps
 pub mod FieldSteps
 pub mod FunctionSteps
+pub mod BodySteps

@@ -37,6 +37,9 @@ use Rattle.lua_tree.proofs.Descent.{greater_is}
 use Rattle.lua_tree.specs.Grammar.{right_level, unary_level}
 use Rattle.lua_tree.specs.View.{binary_view}
 use Rattle.lua_tree.proofs.ExpressionSteps as es
+use Rattle.lua_tree.proofs.BodySteps as bd
+use Rattle.lua_tree.specs.Begins.{hidden_of}
+use Rattle.lua_tree.specs.View.{func_view}
 use Rattle.lua_tree.proofs.+grammar.Goals as goal
 
 -- ---- statements
@@ -315,6 +318,155 @@ conditions::if_statement-returns-clause-moves t c = record {
   high = st.if_high _ _ _ _ _ c.arms.arms.items c.in_ok-last.last.node c.from_vec.ensures c.max.ensures c.arms.invariant.high c.in_ok-last.ensures.moves.high;
   low = search rules;
 }
+
+-- ---- expressions
+
+pub expressions::expression-returns-in_err-left-clause-answer : goal.expressions::expression-returns-in_err-left-clause-answer
+expressions::expression-returns-in_err-left-clause-answer t c words sp =
+    stopped {whole = r.program (r.expr c.args.level (counts c.args.scope))} expr_view expr_view c.args.at c.args.at words c.in_err-left.field-0.0 c.from_residual.result c.from_residual.ensures.1
+    (λ x us e. stops e) (c.in_err-left.ensures.answer words sp)
+
+pub expressions::expression-returns-clause-answer : goal.expressions::expression-returns-clause-answer
+expressions::expression-returns-clause-answer t c words sp =
+    onward {p = r.program (r.expr c.args.level (counts c.args.scope))} expr_view c.in_ok-left.left.at c.args.at words c.operations.result
+    (λ o d. thens (c.in_ok-left.ensures.answer words sp) (just d)) (c.operations.ensures.answer words sp)
+
+pub expressions::operations-operators-preserved : goal.expressions::operations-operators-preserved
+expressions::operations-operators-preserved t c = record {
+  behind = search rules;
+  forth = search rules;
+  so_far = λ words sp o d. c.operators.invariant.so_far words sp o (es.as_it_was o (c.in_ok-left.ensures.answer c.args.level c.in-Some.ensures.some.1 words sp o d));
+}
+
+pub expressions::operations-returns-in_err-left-clause-answer : goal.expressions::operations-returns-in_err-left-clause-answer
+expressions::operations-returns-in_err-left-clause-answer t c words sp =
+    let l = c.operators in
+    let p = r.program (r.more c.args.level (counts c.args.scope) (expr_view l.left.node)) in
+    stopped {p = p} {whole = r.program (r.more c.args.level (counts c.args.scope) (expr_view c.args.first.node))} expr_view expr_view l.left.at c.args.first.at words c.in_err-left.field-0.0 c.from_residual.result c.from_residual.ensures.1
+    (λ x us e. l.invariant.so_far words sp (r.stuck x us) e)
+    (of_part p (λ (e : Expr). r.program (r.more c.args.level (counts c.args.scope) (expr_view e))) (λ (e : Expr) (whole : t.Expr). whole) expr_view l.left.at words c.in_err-left.field-0.0 (c.in_err-left.ensures.answer c.args.level c.in-Some.ensures.some.1 words sp))
+
+pub expressions::operations-returns-clause-answer : goal.expressions::operations-returns-clause-answer
+expressions::operations-returns-clause-answer t c words sp =
+    let l = c.operators in
+    l.invariant.so_far words sp _ (es.no_more sp l.left.at c.args.level (counts c.args.scope) (expr_view l.left.node) (c.operator_at.ensures.none c.in_default.is))
+
+pub expressions::operation-returns-in_err-may_nest-clause-answer : goal.expressions::operation-returns-in_err-may_nest-clause-answer
+expressions::operation-returns-in_err-may_nest-clause-answer t c p le words sp =
+    let k = counts c.args.scope in
+    let left = c.args.left in
+    let h = es.operator_stands sp left.at c.requires.here.0 (binary_view c.args.op) c.requires.here.1 c.requires.here.2 in
+    part_faulted {whole = r.program (r.more p k (expr_view left.node))} (λ e. r.program (r.more p k (expr_view e))) (λ e whole. whole) left.at words faults.TooDeep left.at (200 < c.args.scope.depth + 1 + left.height) c.in_err-may_nest.field-0.0 c.from_residual.result c.from_residual.ensures.1 c.in_err-may_nest.ensures.err
+    (λ over. look_at h.is (es.more_binary p k (expr_view left.node) (binary_view c.args.op) h.spot le (passed_at h.is (passes_deep _ (omega (arith, over, c.requires.behind.high))))))
+
+pub expressions::operation-returns-in_err-right-clause-answer : goal.expressions::operation-returns-in_err-right-clause-answer
+expressions::operation-returns-in_err-right-clause-answer t c p le words sp =
+    let k = counts c.args.scope in
+    let left = c.args.left in
+    let h = es.operator_stands sp left.at c.requires.here.0 (binary_view c.args.op) c.requires.here.1 c.requires.here.2 in
+    part_stopped {whole = r.program (r.more p k (expr_view left.node))} expr_view (λ e. r.program (r.more p k (expr_view e))) (λ e whole. whole) (left.at + 1) left.at words c.in_err-right.field-0.0 c.from_residual-in_err-right.result c.from_residual-in_err-right.ensures.1
+    (λ x us e. look_at h.is (es.more_binary p k (expr_view left.node) (binary_view c.args.op) h.spot le (take_at h.is (keeps_deep _ (omega (arith, c.in_ok-may_nest.ensures.ok, c.requires.behind.high))) (next left.at words (stops e)))))
+    (es.at_level _ (right_level (binary_view c.args.op)) _ (r.down k) (left.at + 1) words (Err c.in_err-right.field-0.0) c.priority_of.ensures.right c.deeper.ensures.counts (c.in_err-right.ensures.answer words sp))
+
+pub expressions::operation-returns-clause-moves : goal.expressions::operation-returns-clause-moves
+expressions::operation-returns-clause-moves t c = record {
+  forth = omega (arith, c.in_ok-right.ensures.moves.forth);
+  within = c.in_ok-right.ensures.moves.within;
+  high = omega (arith, es.tall_at_binary c.line_at-line.result c.args.op c.in_ok-left.left c.in_ok-right-2.right c.args.left.node c.in_ok-right.right.node c.in_ok-left.ensures.ok c.in_ok-right-2.ensures.ok, c.max-height.ensures, c.in_ok-right.ensures.moves.high, c.requires.behind.high);
+  low = omega (arith, c.max-height.ensures, c.in_ok-right.ensures.moves.low, c.deeper.ensures.depth, c.in_ok-may_nest.ensures.ok);
+}
+
+pub expressions::operation-returns-clause-answer : goal.expressions::operation-returns-clause-answer
+expressions::operation-returns-clause-answer t c p le words sp o d =
+    let k = counts c.args.scope in
+    let left = c.args.left in
+    let op = binary_view c.args.op in
+    let right = c.in_ok-right.right in
+    let h = es.operator_stands sp left.at c.requires.here.0 op c.requires.here.1 c.requires.here.2 in
+    let e = es.at_level _ (right_level op) _ (r.down k) (left.at + 1) words (Ok right) c.priority_of.ensures.right c.deeper.ensures.counts (c.in_ok-right.ensures.answer words sp) in
+    let same = es.binary_is c.line_at-line.result h.spot.line c.args.op c.in_ok-left.left c.in_ok-right-2.right left.node right.node c.in_ok-left.ensures.ok c.in_ok-right-2.ensures.ok (c.line_at-line.ensures ∙ sym h.line) in
+    es.as_it_is o (look_at h.is (es.more_binary p k (expr_view left.node) op h.spot le (take_at h.is (keeps_deep _ (omega (arith, c.in_ok-may_nest.ensures.ok, c.requires.behind.high)))
+    (next left.at words (thens e (just (subst (λ (a : t.Expr). r.Reads limits r.an_expr (r.program (r.more p k a)) (drop right.at words) o) same d)))))))
+
+pub expressions::unary-returns-in_err-may_nest-clause-answer : goal.expressions::unary-returns-in_err-may_nest-clause-answer
+expressions::unary-returns-in_err-may_nest-clause-answer t c words sp =
+    let u = es.unary_stands sp (counts c.args.scope) c.args.at c.args.op c.requires.here in
+    faulted {whole = r.program (r.first (counts c.args.scope))} expr_view c.args.at words faults.TooDeep c.args.at (200 < c.args.scope.depth + 2) c.in_err-may_nest.field-0.0 c.from_residual.result c.from_residual.ensures.1 c.in_err-may_nest.ensures.err
+    (λ over. u.begins _ (passed_at u.stands.is (passes_deep _ (omega (arith, over)))))
+
+pub expressions::unary-returns-in_err-operand-clause-answer : goal.expressions::unary-returns-in_err-operand-clause-answer
+expressions::unary-returns-in_err-operand-clause-answer t c words sp =
+    let u = es.unary_stands sp (counts c.args.scope) c.args.at c.args.op c.requires.here in
+    stopped {whole = r.program (r.first (counts c.args.scope))} expr_view expr_view (c.args.at + 1) c.args.at words c.in_err-operand.field-0.0 c.from_residual-in_err-operand.result c.from_residual-in_err-operand.ensures.1
+    (λ x us e. u.begins _ (take_at u.stands.is (keeps_deep _ (omega (arith, c.in_ok-may_nest.ensures.ok))) (next c.args.at words (stops e))))
+    (at_counts expr_view (r.expr unary_level) _ _ (c.args.at + 1) words (Err c.in_err-operand.field-0.0) c.deeper.ensures.counts (c.in_err-operand.ensures.answer words sp))
+
+pub expressions::unary-returns-clause-moves : goal.expressions::unary-returns-clause-moves
+expressions::unary-returns-clause-moves t c = record {
+  forth = omega (arith, c.in_ok-operand.ensures.moves.forth);
+  within = c.in_ok-operand.ensures.moves.within;
+  high = omega (arith, es.tall_at_unary c.line_at-line.result c.args.op c.in_ok-operand-2.operand c.in_ok-operand.operand.node c.in_ok-operand-2.ensures.ok, c.in_ok-operand.ensures.moves.high);
+  low = omega (arith, c.in_ok-operand.ensures.moves.low, c.deeper.ensures.depth, c.in_ok-may_nest.ensures.ok);
+}
+
+pub expressions::unary-returns-clause-answer : goal.expressions::unary-returns-clause-answer
+expressions::unary-returns-clause-answer t c words sp =
+    let u = es.unary_stands sp (counts c.args.scope) c.args.at c.args.op c.requires.here in
+    let operand = c.in_ok-operand.operand in
+    let e = at_counts expr_view (r.expr unary_level) _ _ (c.args.at + 1) words (Ok operand) c.deeper.ensures.counts (c.in_ok-operand.ensures.answer words sp) in
+    u.begins _ (take_at u.stands.is (keeps_deep _ (omega (arith, c.in_ok-may_nest.ensures.ok))) (next c.args.at words (thens e
+    (gave (es.unary_is c.line_at-line.result u.stands.spot.line c.args.op c.in_ok-operand-2.operand operand.node c.in_ok-operand-2.ensures.ok (c.line_at-line.ensures ∙ sym u.stands.line))))))
+
+pub expressions::expressions-returns-in_err-first-clause-answer : goal.expressions::expressions-returns-in_err-first-clause-answer
+expressions::expressions-returns-in_err-first-clause-answer t c words sp =
+    stopped {whole = r.program (r.exprs (counts c.args.scope))} expr_view exprs_view c.args.at c.args.at words c.in_err-first.field-0.0 c.from_residual.result c.from_residual.ensures.1
+    (λ x us e. stops e) (c.in_err-first.ensures.answer words sp)
+
+pub expressions::expressions-items-init : goal.expressions::expressions-items-init
+expressions::expressions-items-init t c = record {
+  forth = search rules;
+  within = search rules;
+  high = es.first_expr_high _ _ c.in_ok-first.first.node _ c.in_ok-push.ensures.items c.new-items.ensures.items c.in_ok-first.ensures.moves.high;
+  low = search rules;
+  so_far = λ words sp o d. es.first_expr _ _ c.in_ok-first.first.node o c.in_ok-push.ensures.items c.new-items.ensures.items (thens (c.in_ok-first.ensures.answer words sp) (given o d));
+}
+
+pub expressions::expressions-items-preserved : goal.expressions::expressions-items-preserved
+expressions::expressions-items-preserved t c = record {
+  forth = search rules;
+  within = search rules;
+  high = es.longer_exprs_high _ c.items.items.items c.in_ok-next.next.node _ _ _ c.in_ok-push-2.ensures.items c.max-height.ensures c.items.invariant.high c.in_ok-next.ensures.moves.high;
+  low = search rules;
+  so_far = λ words sp o d.
+    let l = c.items in
+    let h = key_stands sp l.end kinds.Comma tt (c.is.ensures.value.0 c.items-test.true) in
+    es.longer_exprs _ l.items.items c.in_ok-next.next.node o c.in_ok-push-2.ensures.items
+    (l.invariant.so_far words sp _ (look_at h.is (take_at h.is keeps_free (next l.end words (just (thens (c.in_ok-next.ensures.answer words sp) (given o d)))))));
+}
+
+pub expressions::expressions-returns-in_err-next-clause-answer : goal.expressions::expressions-returns-in_err-next-clause-answer
+expressions::expressions-returns-in_err-next-clause-answer t c words sp =
+    let l = c.items in
+    let h = key_stands sp l.end kinds.Comma tt (c.is.ensures.value.0 c.items-test.true) in
+    stopped {whole = r.program (r.exprs (counts c.args.scope))} expr_view exprs_view (l.end + 1) c.args.at words c.in_err-next.field-0.0 c.from_residual-in_err-next.result c.from_residual-in_err-next.ensures.1
+    (λ x us e. l.invariant.so_far words sp (r.stuck x us) (look_at h.is (take_at h.is keeps_free (next l.end words (just (stops e)))))) (c.in_err-next.ensures.answer words sp)
+
+pub expressions::expressions-returns-clause-answer : goal.expressions::expressions-returns-clause-answer
+expressions::expressions-returns-clause-answer t c words sp =
+    let l = c.items in
+    es.exprs_are _ l.items.items c.from_vec.ensures
+    (l.invariant.so_far words sp _ (look_as (others.more_exprs_other (counts c.args.scope) _ _ (no_key sp l.end kinds.Comma (key w.comma) refl (λ e. false≢true (sym c.items-test.false ∙ c.is.ensures.value.1 e)))) gives))
+
+pub expressions::operand-returns-in_default-clause-answer : goal.expressions::operand-returns-in_default-clause-answer
+expressions::operand-returns-in_default-clause-answer t c words sp = es.first_ends sp (counts c.args.scope) c.args.at (sym c.in_default.is ∙ c.kind_at.ensures.value)
+
+pub expressions::operand-returns-in_default-kind-clause-answer : goal.expressions::operand-returns-in_default-kind-clause-answer
+expressions::operand-returns-in_default-kind-clause-answer t c words sp =
+    let d = c.in_default-kind in
+    onward {p = r.program (r.first (counts c.args.scope))} {q = r.program (r.prefix r.in_expr (counts c.args.scope))} expr_view c.args.at c.args.at words c.prefix_expression.result
+    (es.first_prefix sp (counts c.args.scope) c.args.at c.in-Some.kind c.in-Some.ensures.value (λ s v e. es.first_goes (counts c.args.scope) s c.in-Some.kind v e
+    d.not-Function d.not-OpenBrace d.not-Not d.not-Hash d.not-Minus d.not-Dots d.not-Str d.not-Nil d.not-True d.not-False d.not-Number))
+    (c.prefix_expression.ensures.answer words sp)
 
 -- ---- suffixes
 
@@ -1084,151 +1236,148 @@ tables::named_field-returns-clause-moves t c = record {
   low = omega (arith, c.in_ok-value.ensures.moves.low, c.in_ok-may_nest.ensures.ok, c.max.ensures);
 }
 
--- ---- expressions
+-- ---- functions
 
-pub expressions::expression-returns-in_err-left-clause-answer : goal.expressions::expression-returns-in_err-left-clause-answer
-expressions::expression-returns-in_err-left-clause-answer t c words sp =
-    stopped {whole = r.program (r.expr c.args.level (counts c.args.scope))} expr_view expr_view c.args.at c.args.at words c.in_err-left.field-0.0 c.from_residual.result c.from_residual.ensures.1
-    (λ x us e. stops e) (c.in_err-left.ensures.answer words sp)
+pub functions::function_expression-returns-in_err-may_nest-clause-answer : goal.functions::function_expression-returns-in_err-may_nest-clause-answer
+functions::function_expression-returns-in_err-may_nest-clause-answer t c words sp =
+    let h = key_stands sp c.args.at kinds.Function tt c.requires.here in
+    faulted expr_view c.args.at words faults.TooDeep c.args.at (200 < c.args.scope.depth + 2) c.in_err-may_nest.field-0.0 c.from_residual.result c.from_residual.ensures.1 c.in_err-may_nest.ensures.err
+    (λ over. look_at h.is (passed_at h.is (passes_deep _ (omega (arith, over)))))
 
-pub expressions::expression-returns-clause-answer : goal.expressions::expression-returns-clause-answer
-expressions::expression-returns-clause-answer t c words sp =
-    onward {p = r.program (r.expr c.args.level (counts c.args.scope))} expr_view c.in_ok-left.left.at c.args.at words c.operations.result
-    (λ o d. thens (c.in_ok-left.ensures.answer words sp) (just d)) (c.operations.ensures.answer words sp)
+pub functions::function_expression-returns-in_err-read-clause-answer : goal.functions::function_expression-returns-in_err-read-clause-answer
+functions::function_expression-returns-in_err-read-clause-answer t c words sp =
+    let h = key_stands sp c.args.at kinds.Function tt c.requires.here in
+    let d = bd.body_at [] (c.args.at + 1) words (Err c.in_err-read.field-0.0) (c.line_at-line.ensures ∙ sym h.line) c.deeper.ensures.counts (c.in_err-read.ensures.answer words sp) in
+    stopped {whole = r.program (r.first (counts c.args.scope))} func_view expr_view (c.args.at + 1) c.args.at words c.in_err-read.field-0.0 c.from_residual-in_err-read.result c.from_residual-in_err-read.ensures.1
+    (λ x us e. look_at h.is (take_at h.is (keeps_deep _ (omega (arith, c.in_ok-may_nest.ensures.ok))) (next c.args.at words (stops e)))) d
 
-pub expressions::operations-operators-preserved : goal.expressions::operations-operators-preserved
-expressions::operations-operators-preserved t c = record {
-  behind = search rules;
-  forth = search rules;
-  so_far = λ words sp o d. c.operators.invariant.so_far words sp o (es.as_it_was o (c.in_ok-left.ensures.answer c.args.level c.in-Some.ensures.some.1 words sp o d));
+pub functions::function_expression-returns-clause-answer : goal.functions::function_expression-returns-clause-answer
+functions::function_expression-returns-clause-answer t c words sp =
+    let h = key_stands sp c.args.at kinds.Function tt c.requires.here in
+    let d = bd.body_at [] (c.args.at + 1) words (Ok c.in_ok-read.read) (c.line_at-line.ensures ∙ sym h.line) c.deeper.ensures.counts (c.in_ok-read.ensures.answer words sp) in
+    look_at h.is (take_at h.is (keeps_deep _ (omega (arith, c.in_ok-may_nest.ensures.ok))) (next c.args.at words (thens d
+    (gave (ap (λ l. t.function l (func_view c.in_ok-read.read.node)) (h.line ∙ sym c.line_at-line.ensures) ∙ sym (bd.view_function _ _))))))
+
+pub functions::function_expression-returns-clause-moves : goal.functions::function_expression-returns-clause-moves
+functions::function_expression-returns-clause-moves t c = record {
+  forth = omega (arith, c.in_ok-read.ensures.moves.forth);
+  within = c.in_ok-read.ensures.moves.within;
+  high = bd.high_function _ _ _ c.in_ok-read.ensures.moves.high;
+  low = omega (arith, c.in_ok-read.ensures.moves.low, c.deeper.ensures.depth);
 }
 
-pub expressions::operations-returns-in_err-left-clause-answer : goal.expressions::operations-returns-in_err-left-clause-answer
-expressions::operations-returns-in_err-left-clause-answer t c words sp =
-    let l = c.operators in
-    let p = r.program (r.more c.args.level (counts c.args.scope) (expr_view l.left.node)) in
-    stopped {p = p} {whole = r.program (r.more c.args.level (counts c.args.scope) (expr_view c.args.first.node))} expr_view expr_view l.left.at c.args.first.at words c.in_err-left.field-0.0 c.from_residual.result c.from_residual.ensures.1
-    (λ x us e. l.invariant.so_far words sp (r.stuck x us) e)
-    (of_part p (λ (e : Expr). r.program (r.more c.args.level (counts c.args.scope) (expr_view e))) (λ (e : Expr) (whole : t.Expr). whole) expr_view l.left.at words c.in_err-left.field-0.0 (c.in_err-left.ensures.answer c.args.level c.in-Some.ensures.some.1 words sp))
+pub functions::function_statement-returns-in_err-may_nest-clause-answer : goal.functions::function_statement-returns-in_err-may_nest-clause-answer
+functions::function_statement-returns-in_err-may_nest-clause-answer t c words sp =
+    let h = key_stands sp c.args.at kinds.Function tt c.requires.here in
+    faulted stat_view c.args.at words faults.TooDeep c.args.at (200 < c.args.scope.depth + 1) c.in_err-may_nest.field-0.0 c.from_residual.result c.from_residual.ensures.1 c.in_err-may_nest.ensures.err
+    (λ over. look_at h.is (passed_at h.is (passes_deep _ (omega (arith, over)))))
 
-pub expressions::operations-returns-clause-answer : goal.expressions::operations-returns-clause-answer
-expressions::operations-returns-clause-answer t c words sp =
-    let l = c.operators in
-    l.invariant.so_far words sp _ (es.no_more sp l.left.at c.args.level (counts c.args.scope) (expr_view l.left.node) (c.operator_at.ensures.none c.in_default.is))
+pub functions::function_statement-returns-in_err-name-clause-answer : goal.functions::function_statement-returns-in_err-name-clause-answer
+functions::function_statement-returns-in_err-name-clause-answer t c words sp =
+    let h = key_stands sp c.args.at kinds.Function tt c.requires.here in
+    let rest = bd.statement_rest h.spot.line (counts c.args.scope) in
+    stopped {whole = r.program (r.stat (counts c.args.scope))} (λ y. y) stat_view (c.args.at + 1) c.args.at words c.in_err-name.field-0.0 c.from_residual-in_err-name.result c.from_residual-in_err-name.ensures.1
+    (λ x us e. look_at h.is (take_at h.is (keeps_deep _ (omega (arith, c.in_ok-may_nest.ensures.ok))) (next c.args.at words e)))
+    (bd.name_stopped r.a_stat (counts c.args.scope) rest (c.args.at + 1) words c.in_err-name.field-0.0 (c.in_err-name.ensures.answer words sp))
 
-pub expressions::operation-returns-in_err-may_nest-clause-answer : goal.expressions::operation-returns-in_err-may_nest-clause-answer
-expressions::operation-returns-in_err-may_nest-clause-answer t c p le words sp =
-    let k = counts c.args.scope in
-    let left = c.args.left in
-    let h = es.operator_stands sp left.at c.requires.here.0 (binary_view c.args.op) c.requires.here.1 c.requires.here.2 in
-    part_faulted {whole = r.program (r.more p k (expr_view left.node))} (λ e. r.program (r.more p k (expr_view e))) (λ e whole. whole) left.at words faults.TooDeep left.at (200 < c.args.scope.depth + 1 + left.height) c.in_err-may_nest.field-0.0 c.from_residual.result c.from_residual.ensures.1 c.in_err-may_nest.ensures.err
-    (λ over. look_at h.is (es.more_binary p k (expr_view left.node) (binary_view c.args.op) h.spot le (passed_at h.is (passes_deep _ (omega (arith, over, c.requires.behind.high))))))
+pub functions::function_statement-returns-in_err-read-clause-answer : goal.functions::function_statement-returns-in_err-read-clause-answer
+functions::function_statement-returns-in_err-read-clause-answer t c words sp =
+    let h = key_stands sp c.args.at kinds.Function tt c.requires.here in
+    let rest = bd.statement_rest h.spot.line (counts c.args.scope) in
+    let name = c.in_ok-name.name in
+    let d = bd.body_at (hidden_of name.method) name.target.at words (Err c.in_err-read.field-0.0) (c.line_at-line.ensures ∙ sym h.line) refl (c.in_err-read.ensures.answer words sp) in
+    stopped {whole = r.program (r.stat (counts c.args.scope))} func_view stat_view name.target.at c.args.at words c.in_err-read.field-0.0 c.from_residual-in_err-read.result c.from_residual-in_err-read.ensures.1
+    (λ x us e. look_at h.is (take_at h.is (keeps_deep _ (omega (arith, c.in_ok-may_nest.ensures.ok))) (next c.args.at words (c.in_ok-name.ensures.answer words sp r.a_stat rest (r.stuck x us) (stops e))))) d
 
-pub expressions::operation-returns-in_err-right-clause-answer : goal.expressions::operation-returns-in_err-right-clause-answer
-expressions::operation-returns-in_err-right-clause-answer t c p le words sp =
-    let k = counts c.args.scope in
-    let left = c.args.left in
-    let h = es.operator_stands sp left.at c.requires.here.0 (binary_view c.args.op) c.requires.here.1 c.requires.here.2 in
-    part_stopped {whole = r.program (r.more p k (expr_view left.node))} expr_view (λ e. r.program (r.more p k (expr_view e))) (λ e whole. whole) (left.at + 1) left.at words c.in_err-right.field-0.0 c.from_residual-in_err-right.result c.from_residual-in_err-right.ensures.1
-    (λ x us e. look_at h.is (es.more_binary p k (expr_view left.node) (binary_view c.args.op) h.spot le (take_at h.is (keeps_deep _ (omega (arith, c.in_ok-may_nest.ensures.ok, c.requires.behind.high))) (next left.at words (stops e)))))
-    (es.at_level _ (right_level (binary_view c.args.op)) _ (r.down k) (left.at + 1) words (Err c.in_err-right.field-0.0) c.priority_of.ensures.right c.deeper.ensures.counts (c.in_err-right.ensures.answer words sp))
+pub functions::function_statement-returns-clause-answer : goal.functions::function_statement-returns-clause-answer
+functions::function_statement-returns-clause-answer t c words sp =
+    let h = key_stands sp c.args.at kinds.Function tt c.requires.here in
+    let rest = bd.statement_rest h.spot.line (counts c.args.scope) in
+    let name = c.in_ok-name.name in
+    let d = bd.body_at (hidden_of name.method) name.target.at words (Ok c.in_ok-read.read) (c.line_at-line.ensures ∙ sym h.line) refl (c.in_ok-read.ensures.answer words sp) in
+    look_at h.is (take_at h.is (keeps_deep _ (omega (arith, c.in_ok-may_nest.ensures.ok))) (next c.args.at words (c.in_ok-name.ensures.answer words sp r.a_stat rest _ (thens d
+    (gave (ap (λ l. t.function_stat l (expr_view name.target.node) (func_view c.in_ok-read.read.node)) (h.line ∙ sym c.line_at-line.ensures) ∙ sym (bd.view_function_stat _ _ _)))))))
 
-pub expressions::operation-returns-clause-moves : goal.expressions::operation-returns-clause-moves
-expressions::operation-returns-clause-moves t c = record {
-  forth = omega (arith, c.in_ok-right.ensures.moves.forth);
-  within = c.in_ok-right.ensures.moves.within;
-  high = omega (arith, es.tall_at_binary c.line_at-line.result c.args.op c.in_ok-left.left c.in_ok-right-2.right c.args.left.node c.in_ok-right.right.node c.in_ok-left.ensures.ok c.in_ok-right-2.ensures.ok, c.max-height.ensures, c.in_ok-right.ensures.moves.high, c.requires.behind.high);
-  low = omega (arith, c.max-height.ensures, c.in_ok-right.ensures.moves.low, c.deeper.ensures.depth, c.in_ok-may_nest.ensures.ok);
+pub functions::function_statement-returns-clause-moves : goal.functions::function_statement-returns-clause-moves
+functions::function_statement-returns-clause-moves t c = record {
+  forth = omega (arith, c.in_ok-read.ensures.moves.forth, c.in_ok-name.ensures.moves.forth);
+  within = c.in_ok-read.ensures.moves.within;
+  high = omega (arith, bd.tall_at_function c.line_at-line.result c.in_ok-name.name.target.node c.in_ok-read.read.node, c.in_ok-read.ensures.moves.high, c.in_ok-name.ensures.moves.high, c.max.ensures);
+  low = omega (arith, c.in_ok-read.ensures.moves.low, c.in_ok-name.ensures.moves.low, c.max.ensures);
 }
 
-pub expressions::operation-returns-clause-answer : goal.expressions::operation-returns-clause-answer
-expressions::operation-returns-clause-answer t c p le words sp o d =
-    let k = counts c.args.scope in
-    let left = c.args.left in
-    let op = binary_view c.args.op in
-    let right = c.in_ok-right.right in
-    let h = es.operator_stands sp left.at c.requires.here.0 op c.requires.here.1 c.requires.here.2 in
-    let e = es.at_level _ (right_level op) _ (r.down k) (left.at + 1) words (Ok right) c.priority_of.ensures.right c.deeper.ensures.counts (c.in_ok-right.ensures.answer words sp) in
-    let same = es.binary_is c.line_at-line.result h.spot.line c.args.op c.in_ok-left.left c.in_ok-right-2.right left.node right.node c.in_ok-left.ensures.ok c.in_ok-right-2.ensures.ok (c.line_at-line.ensures ∙ sym h.line) in
-    es.as_it_is o (look_at h.is (es.more_binary p k (expr_view left.node) op h.spot le (take_at h.is (keeps_deep _ (omega (arith, c.in_ok-may_nest.ensures.ok, c.requires.behind.high)))
-    (next left.at words (thens e (just (subst (λ (a : t.Expr). r.Reads limits r.an_expr (r.program (r.more p k a)) (drop right.at words) o) same d)))))))
+pub functions::local_function-returns-in_err-may_nest-clause-answer : goal.functions::local_function-returns-in_err-may_nest-clause-answer
+functions::local_function-returns-in_err-may_nest-clause-answer t c words sp =
+    faulted stat_view c.args.at words faults.TooDeep (c.args.at + 1) (200 < c.args.scope.depth + 1) c.in_err-may_nest.field-0.0 c.from_residual.result c.from_residual.ensures.1 c.in_err-may_nest.ensures.err
+    (λ over. bd.local_function_deep sp (counts c.args.scope) c.args.at c.requires.here c.requires.function (omega (arith, over)))
 
-pub expressions::unary-returns-in_err-may_nest-clause-answer : goal.expressions::unary-returns-in_err-may_nest-clause-answer
-expressions::unary-returns-in_err-may_nest-clause-answer t c words sp =
-    let u = es.unary_stands sp (counts c.args.scope) c.args.at c.args.op c.requires.here in
-    faulted {whole = r.program (r.first (counts c.args.scope))} expr_view c.args.at words faults.TooDeep c.args.at (200 < c.args.scope.depth + 2) c.in_err-may_nest.field-0.0 c.from_residual.result c.from_residual.ensures.1 c.in_err-may_nest.ensures.err
-    (λ over. u.begins _ (passed_at u.stands.is (passes_deep _ (omega (arith, over)))))
+pub functions::local_function-returns-in_err-name-clause-answer : goal.functions::local_function-returns-in_err-name-clause-answer
+functions::local_function-returns-in_err-name-clause-answer t c words sp =
+    stopped (λ y. y) stat_view (c.args.at + 2) c.args.at words c.in_err-name.field-0.0 c.from_residual-in_err-name.result c.from_residual-in_err-name.ensures.1
+    (λ x us e. bd.local_function_opens sp (counts c.args.scope) c.args.at _ c.requires.here c.requires.function (omega (arith, c.in_ok-may_nest.ensures.ok)) e)
+    (tg.no_local c.args.source.now sp (λ y. y) _ (c.args.at + 2) c.args.scope.locals c.in_err-name.field-0.0 c.in_err-name.ensures.err)
 
-pub expressions::unary-returns-in_err-operand-clause-answer : goal.expressions::unary-returns-in_err-operand-clause-answer
-expressions::unary-returns-in_err-operand-clause-answer t c words sp =
-    let u = es.unary_stands sp (counts c.args.scope) c.args.at c.args.op c.requires.here in
-    stopped {whole = r.program (r.first (counts c.args.scope))} expr_view expr_view (c.args.at + 1) c.args.at words c.in_err-operand.field-0.0 c.from_residual-in_err-operand.result c.from_residual-in_err-operand.ensures.1
-    (λ x us e. u.begins _ (take_at u.stands.is (keeps_deep _ (omega (arith, c.in_ok-may_nest.ensures.ok))) (next c.args.at words (stops e))))
-    (at_counts expr_view (r.expr unary_level) _ _ (c.args.at + 1) words (Err c.in_err-operand.field-0.0) c.deeper.ensures.counts (c.in_err-operand.ensures.answer words sp))
+pub functions::local_function-returns-in_err-read-clause-answer : goal.functions::local_function-returns-in_err-read-clause-answer
+functions::local_function-returns-in_err-read-clause-answer t c words sp =
+    let d = bd.body_at [] (c.args.at + 3) words (Err c.in_err-read.field-0.0) c.line_at-line.ensures refl (c.in_err-read.ensures.answer words sp) in
+    stopped func_view stat_view (c.args.at + 3) c.args.at words c.in_err-read.field-0.0 c.from_residual-in_err-read.result c.from_residual-in_err-read.ensures.1
+    (λ x us e. bd.local_function_opens sp (counts c.args.scope) c.args.at _ c.requires.here c.requires.function (omega (arith, c.in_ok-may_nest.ensures.ok))
+    (lp.local_named c.args.source.now sp _ (c.args.at + 2) (c.args.at + 3) c.args.scope.locals c.in_ok-name.name _ c.in_ok-name.ensures.ok c.in_ok-name.ensures.room (omega arith) (stops e))) d
 
-pub expressions::unary-returns-clause-moves : goal.expressions::unary-returns-clause-moves
-expressions::unary-returns-clause-moves t c = record {
-  forth = omega (arith, c.in_ok-operand.ensures.moves.forth);
-  within = c.in_ok-operand.ensures.moves.within;
-  high = omega (arith, es.tall_at_unary c.line_at-line.result c.args.op c.in_ok-operand-2.operand c.in_ok-operand.operand.node c.in_ok-operand-2.ensures.ok, c.in_ok-operand.ensures.moves.high);
-  low = omega (arith, c.in_ok-operand.ensures.moves.low, c.deeper.ensures.depth, c.in_ok-may_nest.ensures.ok);
+pub functions::local_function-returns-clause-answer : goal.functions::local_function-returns-clause-answer
+functions::local_function-returns-clause-answer t c words sp =
+    let d = bd.body_at [] (c.args.at + 3) words (Ok c.in_ok-read.read) c.line_at-line.ensures refl (c.in_ok-read.ensures.answer words sp) in
+    bd.local_function_opens sp (counts c.args.scope) c.args.at _ c.requires.here c.requires.function (omega (arith, c.in_ok-may_nest.ensures.ok))
+    (lp.local_named c.args.source.now sp _ (c.args.at + 2) (c.args.at + 3) c.args.scope.locals c.in_ok-name.name _ c.in_ok-name.ensures.ok c.in_ok-name.ensures.room (omega arith) (thens d
+    (gave (ap (λ l. t.local_function l c.in_ok-name.name (func_view c.in_ok-read.read.node)) (sym c.line_at.ensures) ∙ sym (bd.view_local_function _ _ _)))))
+
+pub functions::body-returns-in_err-at-clause-answer : goal.functions::body-returns-in_err-at-clause-answer
+functions::body-returns-in_err-at-clause-answer t c words sp =
+    faulted func_view c.args.at words faults.Unexpected c.args.at (kind_at c.args.source.now.tokens.now c.args.at ≡ Some kinds.OpenParen → ⊥) c.in_err-at.field-0.0 c.from_residual.result c.from_residual.ensures.1 c.in_err-at.ensures.err
+    (λ none. not_there (no_key sp c.args.at kinds.OpenParen (key w.open_paren) refl none))
+
+pub functions::body-returns-in_err-parameters-clause-answer : goal.functions::body-returns-in_err-parameters-clause-answer
+functions::body-returns-in_err-parameters-clause-answer t c words sp =
+    stopped (λ y. y) func_view c.in_ok-at.at c.args.at words c.in_err-parameters.field-0.0 c.from_residual-in_err-parameters.result c.from_residual-in_err-parameters.ensures.1
+    (λ x us e. bd.body_opens sp c.args.at c.in_ok-at.at _ c.in_ok-at.ensures.there c.in_ok-at.ensures.next (stops e))
+    (bd.params_stopped c.args.method c.in_ok-at.at words c.in_err-parameters.field-0.0 (c.in_err-parameters.ensures.answer words sp))
+
+pub functions::body-returns-in_err-read-clause-answer : goal.functions::body-returns-in_err-read-clause-answer
+functions::body-returns-in_err-read-clause-answer t c words sp =
+    let ps = c.in_ok-parameters.parameters in
+    let p = c.in_ok-parameters.ensures.answer words sp in
+    let names = hidden_of c.args.method ++ p.0 in
+    let long : length names ≡ c.len.result = omega (arith, ap length p.1, ps.names.ok.0, c.len.ensures) in
+    let d = at_counts block_view r.block _ _ ps.at words (Err c.in_err-read.field-0.0) (c.function-inner.ensures.counts names long) (c.in_err-read.ensures.answer words sp) in
+    stopped block_view func_view ps.at c.args.at words c.in_err-read.field-0.0 c.from_residual-in_err-read.result c.from_residual-in_err-read.ensures.1
+    (λ x us e. bd.body_opens sp c.args.at c.in_ok-at.at _ c.in_ok-at.ensures.there c.in_ok-at.ensures.next (thens p.2 (stops e))) d
+
+pub functions::body-returns-in_err-at-2-clause-answer : goal.functions::body-returns-in_err-at-2-clause-answer
+functions::body-returns-in_err-at-2-clause-answer t c words sp =
+    let ps = c.in_ok-parameters.parameters in
+    let p = c.in_ok-parameters.ensures.answer words sp in
+    let names = hidden_of c.args.method ++ p.0 in
+    let long : length names ≡ c.len.result = omega (arith, ap length p.1, ps.names.ok.0, c.len.ensures) in
+    let read = c.in_ok-read.read in
+    let d = at_counts block_view r.block _ _ ps.at words (Ok read) (c.function-inner.ensures.counts names long) (c.in_ok-read.ensures.answer words sp) in
+    faulted func_view c.args.at words faults.Unexpected read.at (kind_at c.args.source.now.tokens.now read.at ≡ Some kinds.End → ⊥) c.in_err-at-2.field-0.0 c.from_residual-in_err-at-2.result c.from_residual-in_err-at-2.ensures.1 c.in_err-at-2.ensures.err
+    (λ none. bd.body_opens sp c.args.at c.in_ok-at.at _ c.in_ok-at.ensures.there c.in_ok-at.ensures.next (thens p.2 (thens d (not_there (no_key sp read.at kinds.End (key w.end_) refl none)))))
+
+pub functions::body-returns-clause-answer : goal.functions::body-returns-clause-answer
+functions::body-returns-clause-answer t c words sp =
+    let ps = c.in_ok-parameters.parameters in
+    let p = c.in_ok-parameters.ensures.answer words sp in
+    let names = hidden_of c.args.method ++ p.0 in
+    let long : length names ≡ c.len.result = omega (arith, ap length p.1, ps.names.ok.0, c.len.ensures) in
+    let read = c.in_ok-read.read in
+    let d = at_counts block_view r.block _ _ ps.at words (Ok read) (c.function-inner.ensures.counts names long) (c.in_ok-read.ensures.answer words sp) in
+    bd.body_opens sp c.args.at c.in_ok-at.at _ c.in_ok-at.ensures.there c.in_ok-at.ensures.next (thens p.2 (thens d (bd.body_ends sp read.at _ _ c.in_ok-at-2.ensures.there c.in_ok-at-2.ensures.next
+    (gave (bd.func_is c.args.line names ps.names.items c.from_vec.result ps.dots read.node p.1 c.from_vec.ensures)))))
+
+pub functions::body-returns-clause-moves : goal.functions::body-returns-clause-moves
+functions::body-returns-clause-moves t c = record {
+  forth = omega (arith, c.in_ok-at.ensures.next, c.in_ok-parameters.ensures.forth, c.in_ok-read.ensures.moves.forth, c.in_ok-at-2.ensures.next);
+  within = omega (arith, c.in_ok-at-2.ensures.next, c.in_ok-at-2.ensures.within);
+  high = bd.high_func _ _ _ _ _ c.in_ok-read.ensures.moves.high;
+  low = omega (arith, c.in_ok-read.ensures.moves.low, c.function-inner.ensures.depth);
 }
-
-pub expressions::unary-returns-clause-answer : goal.expressions::unary-returns-clause-answer
-expressions::unary-returns-clause-answer t c words sp =
-    let u = es.unary_stands sp (counts c.args.scope) c.args.at c.args.op c.requires.here in
-    let operand = c.in_ok-operand.operand in
-    let e = at_counts expr_view (r.expr unary_level) _ _ (c.args.at + 1) words (Ok operand) c.deeper.ensures.counts (c.in_ok-operand.ensures.answer words sp) in
-    u.begins _ (take_at u.stands.is (keeps_deep _ (omega (arith, c.in_ok-may_nest.ensures.ok))) (next c.args.at words (thens e
-    (gave (es.unary_is c.line_at-line.result u.stands.spot.line c.args.op c.in_ok-operand-2.operand operand.node c.in_ok-operand-2.ensures.ok (c.line_at-line.ensures ∙ sym u.stands.line))))))
-
-pub expressions::expressions-returns-in_err-first-clause-answer : goal.expressions::expressions-returns-in_err-first-clause-answer
-expressions::expressions-returns-in_err-first-clause-answer t c words sp =
-    stopped {whole = r.program (r.exprs (counts c.args.scope))} expr_view exprs_view c.args.at c.args.at words c.in_err-first.field-0.0 c.from_residual.result c.from_residual.ensures.1
-    (λ x us e. stops e) (c.in_err-first.ensures.answer words sp)
-
-pub expressions::expressions-items-init : goal.expressions::expressions-items-init
-expressions::expressions-items-init t c = record {
-  forth = search rules;
-  within = search rules;
-  high = es.first_expr_high _ _ c.in_ok-first.first.node _ c.in_ok-push.ensures.items c.new-items.ensures.items c.in_ok-first.ensures.moves.high;
-  low = search rules;
-  so_far = λ words sp o d. es.first_expr _ _ c.in_ok-first.first.node o c.in_ok-push.ensures.items c.new-items.ensures.items (thens (c.in_ok-first.ensures.answer words sp) (given o d));
-}
-
-pub expressions::expressions-items-preserved : goal.expressions::expressions-items-preserved
-expressions::expressions-items-preserved t c = record {
-  forth = search rules;
-  within = search rules;
-  high = es.longer_exprs_high _ c.items.items.items c.in_ok-next.next.node _ _ _ c.in_ok-push-2.ensures.items c.max-height.ensures c.items.invariant.high c.in_ok-next.ensures.moves.high;
-  low = search rules;
-  so_far = λ words sp o d.
-    let l = c.items in
-    let h = key_stands sp l.end kinds.Comma tt (c.is.ensures.value.0 c.items-test.true) in
-    es.longer_exprs _ l.items.items c.in_ok-next.next.node o c.in_ok-push-2.ensures.items
-    (l.invariant.so_far words sp _ (look_at h.is (take_at h.is keeps_free (next l.end words (just (thens (c.in_ok-next.ensures.answer words sp) (given o d)))))));
-}
-
-pub expressions::expressions-returns-in_err-next-clause-answer : goal.expressions::expressions-returns-in_err-next-clause-answer
-expressions::expressions-returns-in_err-next-clause-answer t c words sp =
-    let l = c.items in
-    let h = key_stands sp l.end kinds.Comma tt (c.is.ensures.value.0 c.items-test.true) in
-    stopped {whole = r.program (r.exprs (counts c.args.scope))} expr_view exprs_view (l.end + 1) c.args.at words c.in_err-next.field-0.0 c.from_residual-in_err-next.result c.from_residual-in_err-next.ensures.1
-    (λ x us e. l.invariant.so_far words sp (r.stuck x us) (look_at h.is (take_at h.is keeps_free (next l.end words (just (stops e)))))) (c.in_err-next.ensures.answer words sp)
-
-pub expressions::expressions-returns-clause-answer : goal.expressions::expressions-returns-clause-answer
-expressions::expressions-returns-clause-answer t c words sp =
-    let l = c.items in
-    es.exprs_are _ l.items.items c.from_vec.ensures
-    (l.invariant.so_far words sp _ (look_as (others.more_exprs_other (counts c.args.scope) _ _ (no_key sp l.end kinds.Comma (key w.comma) refl (λ e. false≢true (sym c.items-test.false ∙ c.is.ensures.value.1 e)))) gives))
-
-pub expressions::operand-returns-in_default-clause-answer : goal.expressions::operand-returns-in_default-clause-answer
-expressions::operand-returns-in_default-clause-answer t c words sp = es.first_ends sp (counts c.args.scope) c.args.at (sym c.in_default.is ∙ c.kind_at.ensures.value)
-
-pub expressions::operand-returns-in_default-kind-clause-answer : goal.expressions::operand-returns-in_default-kind-clause-answer
-expressions::operand-returns-in_default-kind-clause-answer t c words sp =
-    let d = c.in_default-kind in
-    onward {p = r.program (r.first (counts c.args.scope))} {q = r.program (r.prefix r.in_expr (counts c.args.scope))} expr_view c.args.at c.args.at words c.prefix_expression.result
-    (es.first_prefix sp (counts c.args.scope) c.args.at c.in-Some.kind c.in-Some.ensures.value (λ s v e. es.first_goes (counts c.args.scope) s c.in-Some.kind v e
-    d.not-Function d.not-OpenBrace d.not-Not d.not-Hash d.not-Minus d.not-Dots d.not-Str d.not-Nil d.not-True d.not-False d.not-Number))
-    (c.prefix_expression.ensures.answer words sp)
