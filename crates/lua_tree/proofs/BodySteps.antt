@@ -94,7 +94,6 @@ name_stopped s c f at words stop.Memory d = tt
 
 -- ---- `local function`
 
-
 pub local_function_deep : {bytes : List ℕ} {ts : List Token} {words : List Tok} (sp : Spelled bytes 1 ts words) (c : Counts) (at : ℕ) → kind_at ts at ≡ Some kinds.Local → kind_at ts (at + 1) ≡ Some kinds.Function
     → 200 < suc (c nodes) → Reads limits a_stat (program (stat_rule c)) (drop at words) (stuck (over nodes) (drop (at + 1) words))
 local_function_deep {words = words} sp c at is function high =

@@ -51,7 +51,6 @@ behind_at st s q d v l n calls = refl
 pub behind_counts : (st : Stat) (s q : Scope) → q.depth ≡ s.depth → q.dots ≡ s.dots → q.in_loop ≡ s.in_loop → q.locals ≡ s.locals + declared st → counts q ≡ behind st (counts s)
 behind_counts st s q d v l n = same_counts (behind_at st s q d v l n)
 
-
 body_at : (ps : List Bytes) (has_dots : Bool) (c : Counts) (q : Scope) → q.depth ≡ c nodes + 1 → q.dots ≡ has_dots → q.in_loop ≡ false → q.locals ≡ length ps → c calls ≡ 0 → (x : Limit) → counts q x ≡ in_body ps has_dots c x
 body_at ps b c q d v l n z breaks = ap (λ b. if b then 0 else 1) l
 body_at ps true c q d v l n z varargs = ap (λ b. if b then 0 else 1) v

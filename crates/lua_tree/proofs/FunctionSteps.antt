@@ -95,9 +95,9 @@ one_more_param source start at later hidden read more so x is lt e comma to = re
   names = so.names ++ x ∷ [];
   all = all_and_one hidden so.names read more x so.all e;
   goes_on = λ words sp r d.
-    let h = key_stands sp (at + 1) kinds.Comma tt comma in
-    let f = subst (λ (n : ℕ). Reads limits some_params (program (next_param n)) (drop later words) r) (ap length e ∙ lengthened read x) d in
-    behind_param source words sp start at hidden read so x is lt r (look_at h.is (take_at h.is keeps_free (moved (at + 1) later words to (just f))));
+      let h = key_stands sp (at + 1) kinds.Comma tt comma in
+      let f = subst (λ (n : ℕ). Reads limits some_params (program (next_param n)) (drop later words) r) (ap length e ∙ lengthened read x) d in
+      behind_param source words sp start at hidden read so x is lt r (look_at h.is (take_at h.is keeps_free (moved (at + 1) later words to (just f))));
 }
 
 -- the parameters begin with no ')'
@@ -116,9 +116,11 @@ pub params_end : (source : Source) (words : List Tok) → Spelled source.bytes.n
     → (names : List Bytes) × (more ≡ hidden ++ names) × Reads limits some_params (program (params (length hidden))) (drop start words) (got (names, false) (drop (at + 1 + 1) words))
 params_end source words sp start at hidden read more so x is lt e close none =
     let h = key_stands sp (at + 1) kinds.CloseParen tt close in
-    let d = behind_param source words sp start at hidden read so x is lt (got ([], false) (drop (at + 1 + 1) words)) (look_at h.is (take_at h.is keeps_free (ended (at + 1) (at + 1 + 1) words refl refl))) in
-    (so.names ++ x ∷ [], all_and_one hidden so.names read more x so.all e,
-    params_begin source words sp start (length hidden) none _ (subst (λ (xs : List Bytes). Reads limits some_params (program (next_param (length hidden))) (drop start words) (got (xs, false) (drop (at + 1 + 1) words))) (append-nil (so.names ++ x ∷ [])) d))
+    let d = behind_param source words sp start at hidden read so x is lt (got ([], false) (drop (at + 1 + 1) words)) (look_at h.is (take_at h.is keeps_free (ended (at + 1) (at + 1 + 1) words refl refl))) in (
+      so.names ++ x ∷ [],
+      all_and_one hidden so.names read more x so.all e,
+      params_begin source words sp start (length hidden) none _ (subst (λ (xs : List Bytes). Reads limits some_params (program (next_param (length hidden))) (drop start words) (got (xs, false) (drop (at + 1 + 1) words))) (append-nil (so.names ++ x ∷ [])) d),
+    )
 
 -- they end with '...'
 pub dots_end : (source : Source) (words : List Tok) → Spelled source.bytes.now 1 source.tokens.now words → (start at : ℕ) (hidden read : List Bytes) (so : ReadSoFar source start at hidden read)
@@ -199,10 +201,10 @@ pub record NamedSoFar (source : Source) (c : Counts) (start at : ℕ) (e : t.Exp
 pub name_begins : (source : Source) (c : Counts) (at later : ℕ) (e : Expr) → NameAt source at e → later ≡ at + 1 → NamedSoFar source c at later (expr_view e)
 name_begins source c at later e is to = record {
   goes_on = λ words sp s f r d.
-    let x = take is.0.length (drop is.0.start source.bytes.now) in
-    let h = name_stands sp at is.0 x is.1 is.2 refl in
-    let same : expr_view e ≡ t.name h.spot.line x = is.3 ∙ ap (λ (l : ℕ). t.name l x) (sym (h.line ∙ ap line_of is.1)) in
-    name_at h.is keeps_free (moved at later words to (subst (λ (a : t.Expr). Reads limits s (then (func_name c a) f) (drop later words) r) same d));
+      let x = take is.0.length (drop is.0.start source.bytes.now) in
+      let h = name_stands sp at is.0 x is.1 is.2 refl in
+      let same : expr_view e ≡ t.name h.spot.line x = is.3 ∙ ap (λ (l : ℕ). t.name l x) (sym (h.line ∙ ap line_of is.1)) in
+      name_at h.is keeps_free (moved at later words to (subst (λ (a : t.Expr). Reads limits s (then (func_name c a) f) (drop later words) r) same d));
 }
 
 -- an index in it, as the rule has it
@@ -217,14 +219,14 @@ pub member_follows : (source : Source) (c : Counts) (start later : ℕ) (base : 
     → NamedSoFar source c start later (expr_view e)
 member_follows source c start later base e so dot m to low = record {
   goes_on = λ words sp s f r d.
-    let x = take m.0.length (drop m.0.start source.bytes.now) in
-    let h = key_stands sp base.at kinds.Dot tt dot in
-    let n = name_stands sp (base.at + 1) m.0 x m.1 m.2 refl in
-    let same = member_is source base e m h.spot.line n.spot.line h.line n.line in
-    let further : later ≡ base.at + 1 + 1 = omega (arith, to) in
-    so.goes_on words sp s f r (then_by (func_name c (expr_view e)) (func_name c (expr_view base.node)) f _ _ r
-    (λ o k. look_at h.is (take_at h.is (keeps_deep _ low) (next base.at words (name_at n.is keeps_free (moved (base.at + 1) later words further
-    (just (subst (λ (a : t.Expr). Reads limits a_target (program (func_name c a)) (drop later words) o) same k))))))) d);
+      let x = take m.0.length (drop m.0.start source.bytes.now) in
+      let h = key_stands sp base.at kinds.Dot tt dot in
+      let n = name_stands sp (base.at + 1) m.0 x m.1 m.2 refl in
+      let same = member_is source base e m h.spot.line n.spot.line h.line n.line in
+      let further : later ≡ base.at + 1 + 1 = omega (arith, to) in
+      so.goes_on words sp s f r (then_by (func_name c (expr_view e)) (func_name c (expr_view base.node)) f _ _ r
+      (λ o k. look_at h.is (take_at h.is (keeps_deep _ low) (next base.at words (name_at n.is keeps_free (moved (base.at + 1) later words further
+      (just (subst (λ (a : t.Expr). Reads limits a_target (program (func_name c a)) (drop later words) o) same k))))))) d);
 }
 
 -- it ends with a part behind ':'

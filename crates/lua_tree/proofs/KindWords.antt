@@ -31,11 +31,11 @@ word_by source u k v h = h
 pub word_for : {source : List ℕ} {first : ℕ} {ts : List Token} {words : List Tok} → Spelled source first ts words → (at : ℕ) → WordFor (kind_at ts at) (word_of (drop at words))
 word_for {source = source} {ts = ts} {words = words} spelled at =
     elim (slice_get ts at) as (λ o. slice_get ts at ≡ o → WordFor (kind_of o) (word_of (drop at words))) [
-    | None ↦ λ e. ap word_of (past spelled at e)
-    | Some u ↦ λ e.
-        let h = here spelled at u e in
-        subst (λ (v : Word). WordFor (Some u.kind) v) (sym (ap word_of h.stands)) (word_by source u u.kind h.word h.is_word)
-  ] refl
+      | None ↦ λ e. ap word_of (past spelled at e)
+      | Some u ↦ λ e.
+          let h = here spelled at u e in
+          subst (λ (v : Word). WordFor (Some u.kind) v) (sym (ap word_of h.stands)) (word_by source u u.kind h.word h.is_word)
+    ] refl
 
 -- what is done at the word that stands there
 by_word : {A : Type 0} (f : Word → A) (v u : Word) (a : A) → v ≡ u → f u ≡ a → f v ≡ a

@@ -134,9 +134,9 @@ key_word source u k v h e = e
 -- the token of a kind
 pub kind_token : (ts : List Token) (at : ℕ) (k : Kind) → kind_at ts at ≡ Some k → (u : Token) × (slice_get ts at ≡ Some u) × (u.kind ≡ k)
 kind_token ts at k e = elim (slice_get ts at) as (λ o. kind_of o ≡ Some k → (u : Token) × (o ≡ Some u) × (u.kind ≡ k)) [
-    | None ↦ λ none. absurd (none-some k none)
-    | Some u ↦ λ some. (u, refl, same_Some u.kind k some)
-  ] e
+  | None ↦ λ none. absurd (none-some k none)
+  | Some u ↦ λ some. (u, refl, same_Some u.kind k some)
+] e
 
 -- a keyword or a symbol stands at a place, on this line
 pub record Stands (ts : List Token) (words : List Tok) (at : ℕ) (v : Word) : Type 0 where
@@ -164,12 +164,12 @@ kind_read source u j k v is e = same_Some j k (sym (word_kind j tt) ∙ sym (ap 
 pub no_key : {source : List ℕ} {first : ℕ} {ts : List Token} {words : List Tok} → Spelled source first ts words → (at : ℕ) (k : Kind) (v : Word) → kind_of_word v ≡ Some k
     → (kind_at ts at ≡ Some k → ⊥) → word_of (drop at words) ≡ v → ⊥
 no_key {source = source} {ts = ts} {words = words} spelled at k v is none e = elim (slice_get ts at) as (λ o. slice_get ts at ≡ o → ⊥) [
-    | None ↦ λ end. none-some k (ap kind_of_word (sym (ap word_of (past spelled at end)) ∙ e) ∙ is)
-    | Some u ↦ λ there.
-        let h = here spelled at u there in
-        let found = kind_read source u u.kind k h.word h.is_word (ap kind_of_word (sym (ap word_of h.stands) ∙ e) ∙ is) in
-        none (ap kind_of there ∙ ap Some found)
-  ] refl
+  | None ↦ λ end. none-some k (ap kind_of_word (sym (ap word_of (past spelled at end)) ∙ e) ∙ is)
+  | Some u ↦ λ there.
+      let h = here spelled at u there in
+      let found = kind_read source u u.kind k h.word h.is_word (ap kind_of_word (sym (ap word_of h.stands) ∙ e) ∙ is) in
+      none (ap kind_of there ∙ ap Some found)
+] refl
 
 -- whether a word is a name, a string, a number
 abbrev pub is_name : Word → Bool
@@ -190,11 +190,11 @@ name_read source u j v is e = absurd (false≢true (sym (ap is_name is) ∙ e))
 pub no_name_there : {source : List ℕ} {first : ℕ} {ts : List Token} {words : List Tok} → Spelled source first ts words → (at : ℕ)
     → (kind_at ts at ≡ Some kinds.Name → ⊥) → (x : List ℕ) → word_of (drop at words) ≡ w.name x → ⊥
 no_name_there {source = source} {ts = ts} spelled at none x e = elim (slice_get ts at) as (λ o. slice_get ts at ≡ o → ⊥) [
-    | None ↦ λ end. false≢true (ap is_name (sym (ap word_of (past spelled at end)) ∙ e))
-    | Some u ↦ λ there.
-        let h = here spelled at u there in
-        none (ap kind_of there ∙ ap Some (name_read source u u.kind h.word h.is_word (ap is_name (sym (ap word_of h.stands) ∙ e))))
-  ] refl
+  | None ↦ λ end. false≢true (ap is_name (sym (ap word_of (past spelled at end)) ∙ e))
+  | Some u ↦ λ there.
+      let h = here spelled at u there in
+      none (ap kind_of there ∙ ap Some (name_read source u u.kind h.word h.is_word (ap is_name (sym (ap word_of h.stands) ∙ e))))
+] refl
 
 -- where a name stands, it is the word
 pub name_stands : {bytes : List ℕ} {first : ℕ} {ts : List Token} {words : List Tok} → Spelled bytes first ts words → (at : ℕ) (u : Token) (x : List ℕ) → slice_get ts at ≡ Some u → u.kind ≡ kinds.Name

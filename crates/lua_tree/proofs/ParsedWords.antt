@@ -71,9 +71,9 @@ pub place_there : {source : List ℕ} {first : ℕ} {ts : List Token} {words : L
     → place_before source (drop at words) ≡ place_of source (slice_get ts at)
 place_there {source = source} {ts = ts} {words = words} spelled at =
     elim (slice_get ts at) as (λ o. slice_get ts at ≡ o → place_before source (drop at words) ≡ place_of source o) [
-    | None ↦ λ e. ap (place_before source) (past spelled at e)
-    | Some u ↦ λ e. ap (place_before source) (here spelled at u e).stands
-  ] refl
+      | None ↦ λ e. ap (place_before source) (past spelled at e)
+      | Some u ↦ λ e. ap (place_before source) (here spelled at u e).stands
+    ] refl
 
 -- a fault that is exact for the words is so for the source
 pub exact_fault : (source : List ℕ) (what : declared.Fault) (p : ℕ × ℕ) (words rest : List Tok) → WordsOf source words → IsExact limits words (stuck (fault_of what) rest)

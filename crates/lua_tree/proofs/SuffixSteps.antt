@@ -178,7 +178,7 @@ member_parts source {words = words} sp k scope base (Ok read) dot tall n behind 
     let whole = tall_index (line_of (slice_get source.tokens.now base.at)) (expr_view base.node) (t.str u.line x) in
     let low : suc scope.depth + height (expr_view base.node) ≤ 200 = omega (arith, m.low, m.high, high, whole) in
     let same : expr_view read.node ≡ t.index h.spot.line (expr_view base.node) (t.str i.spot.line x) =
-        n.3 ∙ (ap (λ (l : ℕ). t.index l (expr_view base.node) (t.str u.line x)) (sym h.line) ∙ ap (λ (l : ℕ). t.index h.spot.line (expr_view base.node) (t.str l x)) (sym (i.line ∙ ap line_of n.1))) in
+    n.3 ∙ (ap (λ (l : ℕ). t.index l (expr_view base.node) (t.str u.line x)) (sym h.line) ∙ ap (λ (l : ℕ). t.index h.spot.line (expr_view base.node) (t.str l x)) (sym (i.line ∙ ap line_of n.1))) in
     let place : read.at ≡ base.at + 1 + 1 = omega (arith, behind) in
     look_at h.is (take_at h.is (keeps_deep _ low)
     (next base.at words (name_at i.is keeps_free (given {f = λ whole. whole} r (suffixes_behind k (counts scope) same (behind_token (base.at + 1) read.at words place) d)))))
@@ -393,9 +393,12 @@ paren_spot {bytes = bytes} {ts = ts} {words = words} sp (suc k) some is =
     let h = here sp (suc k) u.0 u.1 in
     let spot = spot_behind (line_of (slice_get ts k)) u.0 in
     let word : h.word ≡ key w.open_paren = subst (λ (j : Kind). IsWord bytes u.0 j h.word) u.2 h.is_word in
-    let before : suc k - 1 ≡ k = omega arith in
-    (spot, subst (λ (v : Word). drop (suc k) words ≡ tok v spot ∷ drop (suc (suc k)) words) word h.stands, ap line_of (sym u.1),
-      ap (nat_lt (line_of (slice_get ts k))) (ap line_of (sym u.1)) ∙ ap (λ (j : ℕ). nat_lt (line_of (slice_get ts j)) (line_of (slice_get ts (suc k)))) (sym before))
+    let before : suc k - 1 ≡ k = omega arith in (
+      spot,
+      subst (λ (v : Word). drop (suc k) words ≡ tok v spot ∷ drop (suc (suc k)) words) word h.stands,
+      ap line_of (sym u.1),
+      ap (nat_lt (line_of (slice_get ts k))) (ap line_of (sym u.1)) ∙ ap (λ (j : ℕ). nat_lt (line_of (slice_get ts j)) (line_of (slice_get ts (suc k)))) (sym before),
+    )
 
 not_less : (a b : ℕ) → b ≤ a → nat_lt a b ≡ false
 not_less a b h = grind arith

@@ -111,11 +111,11 @@ field_keyed f d e rest h = search (rules, kind.the_lemmas, expr_of.the_lemmas, f
 -- a field in front of others
 field_and : (f : Field) (rest : t.Fields) → most_fields nodes 0 (field_view f rest) ≡ max (field_tall f) (most_fields nodes 0 rest)
 field_and f rest = elim (out-Field f) as (λ o. out-Field f ≡ o → most_fields nodes 0 (field_view f rest) ≡ max (field_tall f) (most_fields nodes 0 rest)) [
-    | Field-F.Item e ↦ λ h.
-        let x = ap (most_fields nodes 0) (field_item f e rest h) in let y = ap (most_fields nodes 0) (field_item f e t.no_fields h) in omega (arith, x, y)
-    | Field-F.Keyed d e ↦ λ h.
-        let x = ap (most_fields nodes 0) (field_keyed f d e rest h) in let y = ap (most_fields nodes 0) (field_keyed f d e t.no_fields h) in omega (arith, x, y)
-  ] refl
+  | Field-F.Item e ↦ λ h.
+      let x = ap (most_fields nodes 0) (field_item f e rest h) in let y = ap (most_fields nodes 0) (field_item f e t.no_fields h) in omega (arith, x, y)
+  | Field-F.Keyed d e ↦ λ h.
+      let x = ap (most_fields nodes 0) (field_keyed f d e rest h) in let y = ap (most_fields nodes 0) (field_keyed f d e t.no_fields h) in omega (arith, x, y)
+] refl
 
 pub fields_tall_last : (fs : List Field) (f : Field) → fields_tall (fs ++ f ∷ []) ≡ max (fields_tall fs) (field_tall f)
 fields_tall_last [] f = omega arith

@@ -159,9 +159,9 @@ stat_begins c s (Some k) v e h = absurd (false≢true h)
 
 begun : (ts : List Token) (at : ℕ) → begins_prefix (kind_at ts at) ≡ true → (u : Token) × (slice_get ts at ≡ Some u)
 begun ts at h = elim (slice_get ts at) as (λ o. begins_prefix (kind_of o) ≡ true → (u : Token) × (o ≡ Some u)) [
-    | None ↦ λ none. absurd (false≢true none)
-    | Some u ↦ λ some. (u, refl)
-  ] h
+  | None ↦ λ none. absurd (false≢true none)
+  | Some u ↦ λ some. (u, refl)
+] h
 
 pub stat_prefix : {bytes : List ℕ} {ts : List Token} {words : List Tok} (sp : Spelled bytes 1 ts words) (c : Counts) (at : ℕ) (r : Answer t.Stat) → begins_prefix (kind_at ts at) ≡ true
     → Reads limits a_stat (then (prefix leading c) (λ e. then (prefix_stat (line_of (slice_get ts at)) c e) give)) (drop at words) r

@@ -194,7 +194,6 @@ conditions::if_statement-returns-in_err-may_nest-clause-answer t c words sp =
     faulted stat_view c.args.at words faults.TooDeep c.args.at (200 < c.args.scope.depth + 1) c.in_err-may_nest.field-0.0 c.from_residual.result c.from_residual.ensures.1 c.in_err-may_nest.ensures.err
     (λ over. look_at h.is (passed_at h.is (passes_deep _ (omega (arith, over)))))
 
-
 pub conditions::if_statement-returns-in_err-first-clause-answer : goal.conditions::if_statement-returns-in_err-first-clause-answer
 conditions::if_statement-returns-in_err-first-clause-answer t c words sp =
     let h = key_stands sp c.args.at kinds.If tt c.requires.here in
@@ -259,13 +258,13 @@ statements::block-statements-preserved t c = record {
   fits = search rules;
   depth = search rules;
   so_far = λ words sp o d.
-    let l = c.statements in
-    let s = c.in_ok-read.read.node in
-    let b = by_kind.block_begins (counts l.inner) _ _ _ (word_for sp l.end) (sym c.begins_statement.ensures.value ∙ c.statements-test.true) in
-    let same = c.declared-inner.ensures.counts (stat_view s) (sym c.locals_of.ensures) in
-    let e = subst (λ (x : a.Counts). r.Reads limits r.a_block (r.program (r.block x)) (drop c.behind_semicolon-end.result words) o) same d in
-    st.longer_stats _ l.stats.items s o c.in_ok-push.ensures.items
-    (l.invariant.so_far words sp _ (look_as b (thens (c.in_ok-read.ensures.answer words sp) (thens (c.behind_semicolon-end.ensures.read words sp) (given o e)))));
+      let l = c.statements in
+      let s = c.in_ok-read.read.node in
+      let b = by_kind.block_begins (counts l.inner) _ _ _ (word_for sp l.end) (sym c.begins_statement.ensures.value ∙ c.statements-test.true) in
+      let same = c.declared-inner.ensures.counts (stat_view s) (sym c.locals_of.ensures) in
+      let e = subst (λ (x : a.Counts). r.Reads limits r.a_block (r.program (r.block x)) (drop c.behind_semicolon-end.result words) o) same d in
+      st.longer_stats _ l.stats.items s o c.in_ok-push.ensures.items
+      (l.invariant.so_far words sp _ (look_as b (thens (c.in_ok-read.ensures.answer words sp) (thens (c.behind_semicolon-end.ensures.read words sp) (given o e)))));
 }
 
 pub statements::block-returns-then-not-begins_last_statement-clause-answer : goal.statements::block-returns-then-not-begins_last_statement-clause-answer
@@ -305,10 +304,10 @@ conditions::if_statement-arms-preserved t c = record {
   high = st.longer_arms_high _ c.arms.arms.items c.in_ok-next.next.node _ _ _ c.in_ok-push-2.ensures.items c.max-height.ensures c.arms.invariant.high c.in_ok-next.ensures.moves.high;
   low = search rules;
   so_far = λ words sp o d.
-    let l = c.arms in
-    let i = key_stands sp l.end kinds.ElseIf tt (c.is.ensures.value.0 c.arms-test.true) in
-    st.longer_arms _ l.arms.items c.in_ok-next.next.node o c.in_ok-push-2.ensures.items
-    (l.invariant.so_far words sp _ (look_at i.is (take_at i.is keeps_free (next l.end words (just (c.in_ok-next.ensures.answer words sp o d))))));
+      let l = c.arms in
+      let i = key_stands sp l.end kinds.ElseIf tt (c.is.ensures.value.0 c.arms-test.true) in
+      st.longer_arms _ l.arms.items c.in_ok-next.next.node o c.in_ok-push-2.ensures.items
+      (l.invariant.so_far words sp _ (look_at i.is (take_at i.is keeps_free (next l.end words (just (c.in_ok-next.ensures.answer words sp o d))))));
 }
 
 pub conditions::if_statement-returns-clause-moves : goal.conditions::if_statement-returns-clause-moves
@@ -438,10 +437,10 @@ expressions::expressions-items-preserved t c = record {
   high = es.longer_exprs_high _ c.items.items.items c.in_ok-next.next.node _ _ _ c.in_ok-push-2.ensures.items c.max-height.ensures c.items.invariant.high c.in_ok-next.ensures.moves.high;
   low = search rules;
   so_far = λ words sp o d.
-    let l = c.items in
-    let h = key_stands sp l.end kinds.Comma tt (c.is.ensures.value.0 c.items-test.true) in
-    es.longer_exprs _ l.items.items c.in_ok-next.next.node o c.in_ok-push-2.ensures.items
-    (l.invariant.so_far words sp _ (look_at h.is (take_at h.is keeps_free (next l.end words (just (thens (c.in_ok-next.ensures.answer words sp) (given o d)))))));
+      let l = c.items in
+      let h = key_stands sp l.end kinds.Comma tt (c.is.ensures.value.0 c.items-test.true) in
+      es.longer_exprs _ l.items.items c.in_ok-next.next.node o c.in_ok-push-2.ensures.items
+      (l.invariant.so_far words sp _ (look_at h.is (take_at h.is keeps_free (next l.end words (just (thens (c.in_ok-next.ensures.answer words sp) (given o d)))))));
 }
 
 pub expressions::expressions-returns-in_err-next-clause-answer : goal.expressions::expressions-returns-in_err-next-clause-answer

@@ -8,9 +8,9 @@ use Rattle.lua_tree.proofs.tables.behind_field.Goals.{then-is-via-then-is, then-
 
 pub returns-then-is-clause-answer : goal.returns-then-is-clause-answer
 returns-then-is-clause-answer c k words sp = elim c.then-is.branch [
-    | then-is-via-then-is w ↦ behind_comma sp k c.args.at (c.is.ensures.value.0 w.if-is.true)
-    | then-is-via-else-is+then-is-2 w ↦ behind_semicolon sp k c.args.at (w.is-else-is.ensures.value.0 w.if-is-2.true)
-  ]
+  | then-is-via-then-is w ↦ behind_comma sp k c.args.at (c.is.ensures.value.0 w.if-is.true)
+  | then-is-via-else-is+then-is-2 w ↦ behind_semicolon sp k c.args.at (w.is-else-is.ensures.value.0 w.if-is-2.true)
+]
 
 pub returns-in_err-expect-clause-answer : goal.returns-in_err-expect-clause-answer
 returns-in_err-expect-clause-answer c k words sp =
