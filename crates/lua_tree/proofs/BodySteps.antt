@@ -59,9 +59,6 @@ high_func l n xs d b h = let x = ap (most_func nodes 0) (view_func l xs d b) in 
 pub tall_at_function : (l : ℕ) (e : Expr) (f : Func) → stat_tall (record { line = l; what = stats.Function e f }) ≡ max (expr_tall e) (func_tall f)
 tall_at_function l e f = ap (most_stat nodes 0) (view_function_stat l e f)
 
-pub tall_at_local_function : (l : ℕ) (x : Bytes) (f : Func) → stat_tall (record { line = l; what = stats.LocalFunction x f }) ≡ func_tall f
-tall_at_local_function l x f = ap (most_stat nodes 0) (view_local_function l x f)
-
 -- ---- bodies
 
 -- a body of another line and at other counts, which are the same

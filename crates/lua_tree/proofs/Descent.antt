@@ -190,11 +190,6 @@ part_faulted {s = s} {whole = whole} after put start words fault at P stop r is 
     handed r stop (λ o. Parts after put whole start o words) is
     (as_part_stopped whole (λ (u : Value s). u) after put start words stop (why_faulted (λ (u : Value s). u) start words fault at P stop h k))
 
-pub part_forgotten : {U : Type 0} {s q : Sort} (whole : Prog s) (after : U → Prog q) (put : U → Value q → Value s) (start : ℕ) (words : List Tok) (stop : Stop) (r : Result (Read U) Stop)
-    → IsErrAnd r (λ y. y ≡ stop) → stop ≡ stops.Memory → Parts after put whole start r words
-part_forgotten whole after put start words stop r is e =
-    handed r stop (λ o. Parts after put whole start o words) is (subst (λ x. Parts after put whole start (Err x) words) (sym e) tt)
-
 -- why a part stopped is said as of a whole one
 pub of_part : {T U : Type 0} {s q : Sort} (p : Prog s) (after : T → Prog q) (put : T → Value q → Value s) (shown : U → Value s) (at : ℕ) (words : List Tok) (stop : Stop)
     → Parts after put p at (Err stop) words → Answers shown p at (Err stop) words

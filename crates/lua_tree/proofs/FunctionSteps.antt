@@ -147,9 +147,6 @@ why_no_params method start words fault at P (stop.At found place) h k =
     (subst (λ (n : ℕ). Reads limits some_params (program (params (length (hidden_of method)))) (drop start words) (stuck (fault_of fault) (drop n words))) (sym h.1) (k h.2))
 why_no_params method start words fault at P stop.Memory h k = tt
 
-pub no_memory : (method : Bool) (start : ℕ) (words : List Tok) (why : Stop) → why ≡ stop.Memory → ParametersAt method start (Err why) words
-no_memory method start words why e = subst (λ (x : Stop). ParametersAt method start (Err x) words) (sym e) tt
-
 -- no name of one more local stands there
 pub no_local : (source : Source) (words : List Tok) → Spelled source.bytes.now 1 source.tokens.now words → (start at m : ℕ) (method : Bool) (read : List Bytes)
     → ReadSoFar source start at (hidden_of method) read → m ≡ length read → (kind_at source.tokens.now at ≡ Some kinds.Dots → ⊥) → (kind_at source.tokens.now start ≡ Some kinds.CloseParen → ⊥)

@@ -184,9 +184,6 @@ none_for : (l : ℕ) (x : Bytes) (a b : t.Expr) (o : Option t.Expr) (c : t.Block
 none_for l x a b None c = refl
 none_for l x a b (Some e) c = refl
 
-pub none_declared : (l : ℕ) (x : Bytes) (a b : Expr) (o : Option Expr) (c : Block) → declared (stat_view (record { line = l; what = stats.NumFor x a b o c })) ≡ 0
-none_declared l x a b o c = ap declared (view_num_for l x a b o c) ∙ none_for l x (expr_view a) (expr_view b) (option_map expr_view o) (block_view c)
-
 -- what follows a step, and the loop that it stands in
 abbrev pub after_step : Counts → Option Expr → Prog a_block
 after_step c o = program (loop_block 1 c)

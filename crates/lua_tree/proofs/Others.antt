@@ -12,64 +12,10 @@ pub look_as : {s : Sort} {f : Word → Spot → Prog s} {p : Prog s} {ts : List 
     → f (word_of ts) (spot_of ts) ≡ p → Reads limits s p ts r → Reads limits s (look f) ts r
 look_as {s = s} {ts = ts} {r = r} e d = looks (subst (λ (p : Prog s). Reads limits s p ts r) (sym e) d)
 
--- an operand begins with none of these words
-pub record NoFirst (v : Word) : Type 0 where
-  pub nil : v ≡ key w.nil_ → ⊥
-  pub true : v ≡ key w.true_ → ⊥
-  pub false : v ≡ key w.false_ → ⊥
-  pub dots : v ≡ key w.dots → ⊥
-  pub function : v ≡ key w.function_ → ⊥
-  pub not : v ≡ key w.not_ → ⊥
-  pub hash : v ≡ key w.hash → ⊥
-  pub minus : v ≡ w.op sub → ⊥
-  pub brace : v ≡ key w.open_brace → ⊥
-
-pub first_other : (c : Counts) (v : Word) (s : Spot) → NoFirst v → ((z : ℤ) → v ≡ w.number z → ⊥) → ((x : Bytes) → v ≡ w.str x → ⊥) → first_of c v s ≡ then (prefix in_expr c) give
-first_other c (key w.nil_) s h i j = absurd (h.nil refl)
-first_other c (key w.true_) s h i j = absurd (h.true refl)
-first_other c (key w.false_) s h i j = absurd (h.false refl)
-first_other c (key w.dots) s h i j = absurd (h.dots refl)
-first_other c (key w.function_) s h i j = absurd (h.function refl)
-first_other c (key w.not_) s h i j = absurd (h.not refl)
-first_other c (key w.hash) s h i j = absurd (h.hash refl)
-first_other c (w.op sub) s h i j = absurd (h.minus refl)
-first_other c (key w.open_brace) s h i j = absurd (h.brace refl)
-first_other c (w.number z) s h i j = absurd (i z refl)
-first_other c (w.str x) s h i j = absurd (j x refl)
-first_other c v s h i j = refl
-
-pub more_other : (p : ℕ) (c : Counts) (a : Expr) (v : Word) (s : Spot) → ((o : BinOp) → v ≡ w.op o → ⊥) → more_of p c a v s ≡ give a
-more_other p c a (w.op o) s h = absurd (h o refl)
-more_other p c a v s h = refl
-
 pub prefix_other : (k : Place) (c : Counts) (v : Word) (s : Spot) → ((x : Bytes) → v ≡ w.name x → ⊥) → (v ≡ key w.open_paren → ⊥) → prefix_of k c v s ≡ fail
 prefix_other k c (w.name x) s h i = absurd (h x refl)
 prefix_other k c (key w.open_paren) s h i = absurd (i refl)
 prefix_other k c v s h i = refl
-
--- no suffix begins with the word
-pub record NoSuffix (v : Word) : Type 0 where
-  pub bracket : v ≡ key w.open_bracket → ⊥
-  pub dot : v ≡ key w.dot → ⊥
-  pub colon : v ≡ key w.colon → ⊥
-  pub paren : v ≡ key w.open_paren → ⊥
-  pub brace : v ≡ key w.open_brace → ⊥
-  pub string : (x : Bytes) → v ≡ w.str x → ⊥
-
-pub suffixes_other : (k : Place) (c : Counts) (a : Expr) (v : Word) (s : Spot) → NoSuffix v → suffixes_of k c a v s ≡ give a
-suffixes_other k c a (key w.open_bracket) s h = absurd (h.bracket refl)
-suffixes_other k c a (key w.dot) s h = absurd (h.dot refl)
-suffixes_other k c a (key w.colon) s h = absurd (h.colon refl)
-suffixes_other k c a (key w.open_paren) s h = absurd (h.paren refl)
-suffixes_other k c a (key w.open_brace) s h = absurd (h.brace refl)
-suffixes_other k c a (w.str x) s h = absurd (h.string x refl)
-suffixes_other k c a v s h = refl
-
-pub args_other : (n : ℕ) (c : Counts) (v : Word) (s : Spot) → (v ≡ key w.open_paren → ⊥) → (v ≡ key w.open_brace → ⊥) → ((x : Bytes) → v ≡ w.str x → ⊥) → args_of n c v s ≡ fail
-args_other n c (key w.open_paren) s h i j = absurd (h refl)
-args_other n c (key w.open_brace) s h i j = absurd (i refl)
-args_other n c (w.str x) s h i j = absurd (j x refl)
-args_other n c v s h i j = refl
 
 pub paren_args_other : (l : ℕ) (c : Counts) (v : Word) (s : Spot) → (v ≡ key w.close_paren → ⊥) → paren_args_of l c v s ≡ then (exprs c) (λ es. expect w.close_paren free (λ s'. give (l, es)))
 paren_args_other l c (key w.close_paren) s h = absurd (h refl)
@@ -78,13 +24,6 @@ paren_args_other l c v s h = refl
 pub more_exprs_other : (c : Counts) (v : Word) (s : Spot) → (v ≡ key w.comma → ⊥) → more_exprs_of c v s ≡ give no_exprs
 more_exprs_other c (key w.comma) s h = absurd (h refl)
 more_exprs_other c v s h = refl
-
-pub fields_other : (c : Counts) (v : Word) (s : Spot) → (v ≡ key w.close_brace → ⊥) → (v ≡ key w.open_bracket → ⊥) → ((x : Bytes) → v ≡ w.name x → ⊥)
-    → fields_of c v s ≡ then (expr 0 c) (λ e. then (more_fields c) (λ fs. give (item_and e fs)))
-fields_other c (key w.close_brace) s h i j = absurd (h refl)
-fields_other c (key w.open_bracket) s h i j = absurd (i refl)
-fields_other c (w.name x) s h i j = absurd (j x refl)
-fields_other c v s h i j = refl
 
 pub name_field_other : (l : ℕ) (x : Bytes) (c : Counts) (v : Word) (s : Spot) → (v ≡ key w.assign → ⊥)
     → name_field_of l x c v s ≡ then (suffixes in_expr c (name l x)) (λ a. then (more 0 c a) (λ e. then (more_fields c) (λ fs. give (item_and e fs))))

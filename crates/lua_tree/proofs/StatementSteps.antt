@@ -45,9 +45,6 @@ view_block ss = search (rules, kind.the_lemmas, stat.the_lemmas, stat_kind.the_l
 pub high_do : (l n : ℕ) (b : Block) → n ≡ block_tall b → 1 + n ≡ stat_tall (record { line = l; what = stats.Do b })
 high_do l n b h = let x = ap (most_stat nodes 0) (view_do l b) in let y = tall_do l (block_view b) in omega (arith, x, y, h)
 
-pub high_return : (l n : ℕ) (es : List Expr) → n ≡ exprs_tall es → n ≡ stat_tall (record { line = l; what = stats.Return es })
-high_return l n es h = let x = ap (most_stat nodes 0) (view_return l es) in omega (arith, x, h)
-
 pub high_arm : (n m : ℕ) (e : Expr) (b : Block) → n ≡ expr_tall e → m ≡ block_tall b → max n (1 + m) ≡ arm_tall (roll-Arm (record { test = e; block = b }))
 high_arm n m e b h i = let x = ap (most_arms nodes 0) (view_arm e b t.no_else) in let y = tall_arm (expr_view e) (block_view b) t.no_else in omega (arith, x, y, h, i)
 

@@ -453,12 +453,6 @@ table_opens source {words = words} sp cut n c at r low is d =
     look_at h.is (take_at h.is (keeps_opening n _ low line)
     (next at words (subst (λ (l : ℕ). Reads limits an_args (then (fields (down c)) (λ fs. give (l, t.expr_and (t.table l fs) t.no_exprs))) (drop (at + 1) words) r) (sym h.line) d)))
 
--- one table as the arguments
-pub one_table : (l : ℕ) (fs : List Field) (e : Expr) (es : List Expr) → e ≡ record { line = l; what = what.Table fs } → es ≡ e ∷ []
-    → ◌≡◌ {A = Value an_args} (l, t.expr_and (t.table l (fields_view fs)) t.no_exprs) (l, exprs_view es)
-one_table l fs e es i s =
-    ap (λ (y : t.Expr). (l, t.expr_and y t.no_exprs)) (sym (ap expr_view i ∙ view_braces l fs)) ∙ ap (λ (ys : List Expr). (l, exprs_view ys)) (sym s)
-
 -- ---- suffixes, one after the other
 
 -- no more of them
@@ -495,14 +489,6 @@ same_table l m fs es i s =
 pub closed : {bytes : List ℕ} {ts : List Token} {words : List Tok} (sp : Spelled bytes 1 ts words) {s : Sort} {p : Prog s} (at later : ℕ) (r : Answer (Value s)) → kind_at ts at ≡ Some kinds.CloseParen → later ≡ at + 1
     → Reads limits s p (drop later words) r → Reads limits s (expect w.close_paren free (λ s'. p)) (drop at words) r
 closed {words = words} sp at later r is behind d = let h = key_stands sp at kinds.CloseParen tt is in expect_at h.is keeps_free (moved at later words behind d)
-
--- none of the tokens that open arguments
-pub opens_none : (o : Option Kind) → (o ≡ Some kinds.OpenParen → ⊥) → (o ≡ Some kinds.OpenBrace → ⊥) → (o ≡ Some kinds.Str → ⊥) → opens_arguments o ≡ false
-opens_none None p b s = refl
-opens_none (Some kinds.OpenParen) p b s = absurd (p refl)
-opens_none (Some kinds.OpenBrace) p b s = absurd (b refl)
-opens_none (Some kinds.Str) p b s = absurd (s refl)
-opens_none (Some k) p b s = refl
 
 -- an empty list of arguments
 pub no_args : {l : ℕ} {ts us : List Tok} {p : Prog an_args} (es : List Expr) → es ≡ [] → Reads limits an_args p ts (got (l, t.no_exprs) us) → Reads limits an_args p ts (got (l, exprs_view es) us)

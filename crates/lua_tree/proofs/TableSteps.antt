@@ -92,9 +92,6 @@ view_keyed a b rest = search (rules, kind.the_lemmas, expr_of.the_lemmas, field_
 pub view_table : (l : ℕ) (fs : List Field) → expr_view (record { line = l; what = kinds_of.Table fs }) ≡ t.table l (fields_view fs)
 view_table l fs = search (rules, kind.the_lemmas, expr_of.the_lemmas)
 
-pub high_item : (n : ℕ) (e : Expr) → n ≡ expr_tall e → n ≡ field_tall (field_kinds.Item e)
-high_item n e h = let x = ap (most_fields nodes 0) (view_item e t.no_fields) in omega (arith, x, h)
-
 pub high_keyed : (n m : ℕ) (a b : Expr) → n ≡ expr_tall a → m ≡ expr_tall b → max n m ≡ field_tall (field_kinds.Keyed a b)
 high_keyed n m a b h i = let x = ap (most_fields nodes 0) (view_keyed a b t.no_fields) in omega (arith, x, h, i)
 
@@ -121,13 +118,6 @@ pub fields_tall_last : (fs : List Field) (f : Field) → fields_tall (fs ++ f �
 fields_tall_last [] f = omega arith
 fields_tall_last (d ∷ fs) f =
     let h = fields_tall_last fs f in let x = field_and d (fields_view (fs ++ f ∷ [])) in let y = field_and d (fields_view fs) in omega (arith, h, x, y)
-
-pub no_fields_high : (fs : List Field) → fs ≡ [] → 0 ≡ fields_tall fs
-no_fields_high fs e = ap fields_tall (sym e)
-
-pub no_fields_yet : {p : Prog some_fields} {ts : List Tok} (fs : List Field) (r : Answer t.Fields) → fs ≡ [] → Reads limits some_fields p ts r
-    → Reads limits some_fields p ts (as_part (fields_onto fs) r)
-no_fields_yet {p = p} {ts = ts} fs r e d = subst (λ (xs : List Field). Reads limits some_fields p ts (as_part (fields_onto xs) r)) (sym e) (no_field r d)
 
 -- one more field, in a list that was lengthened
 pub longer_fields : {p : Prog some_fields} {ts : List Tok} (us fs : List Field) (f : Field) (r : Answer t.Fields) → us ≡ fs ++ f ∷ []

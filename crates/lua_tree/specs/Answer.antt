@@ -27,10 +27,6 @@ use Rattle.lua_tree.specs.Reading as r
 use Rattle.lua_tree.specs.Reading.{Sort, Value, Prog, Rule, Answer, got, stuck, Reads, program}
 use Rattle.lua_tree.specs.Spelled.{Spelled, kind_at}
 
--- the greatest depth, and the most locals of one function in scope
-abbrev pub max_depth : ℕ
-max_depth = 200
-
 -- what is allowed of what is limited
 abbrev pub limits : r.Limits
 limits a.nodes = 200

@@ -16,7 +16,7 @@ use Rattle.lua_tree.proofs.Taking.{expect_at, just, keeps_deep, keeps_free, keep
 use Rattle.lua_tree.proofs.Marks.{key_stands, name_stands, no_key, no_name_there, str_stands}
 use Rattle.lua_tree.proofs.Others as others
 use Rattle.lua_tree.proofs.Others.{look_as}
-use Rattle.lua_tree.proofs.Descent.{at_counts, ended, faulted, forgotten, gave, given, next, moved, not_there, of_part, onward, part_faulted, part_forgotten, part_stopped, stopped}
+use Rattle.lua_tree.proofs.Descent.{at_counts, ended, faulted, forgotten, gave, given, next, moved, not_there, of_part, onward, part_faulted, part_stopped, stopped}
 use Rattle.lua_tree.proofs.Lists as lists
 use Rattle.lua_tree.proofs.KindWords as by_kind
 use Rattle.lua_tree.proofs.KindWords.{word_for}
