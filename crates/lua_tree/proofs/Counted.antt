@@ -1,6 +1,7 @@
 -- What is counted further inside, of a scope and as the rules have it.
 use Rattle.std.proofs.Common.{◌≡◌, ℕ, suc, ◌+◌, Bool, true, false, List, length, refl, sym, ap, arith}
-use Rattle.std.specs.Prelude.{if◌then◌else◌}
+use Rattle.std.specs.Prelude.{if◌then◌else◌, not}
+use Rattle.std.proofs.lemmas.Bool.{false≢true}
 use Rattle.lua_tree.specs.Tree.{Bytes, Stat}
 use Rattle.lua_tree.specs.declared.scope.Scope.{Scope}
 use Rattle.lua_tree.specs.Attributes.{Limit, breaks, varargs, nodes, locals, calls, Counts, at_chunk, declared}
@@ -60,3 +61,27 @@ body_at ps b c q d v l n z calls = sym z
 
 pub body_counts : (ps : List Bytes) (has_dots : Bool) (c : Counts) (q : Scope) → q.depth ≡ c nodes + 1 → q.dots ≡ has_dots → q.in_loop ≡ false → q.locals ≡ length ps → c calls ≡ 0 → counts q ≡ in_body ps has_dots c
 body_counts ps b c q d v l n z = same_counts (body_at ps b c q d v l n z)
+
+-- what a scope counts where it has a loop or a `...`, and where it doesn't
+abbrev flag : Bool → ℕ
+flag b = if b then 0 else 1
+
+flag_not : (b : Bool) → not b ≡ true → flag b ≡ 1
+flag_not true e = absurd (false≢true e)
+flag_not false e = refl
+
+flag_set : (b : Bool) → not b ≡ false → flag b ≡ 0
+flag_set true e = refl
+flag_set false e = absurd (false≢true (sym e))
+
+pub no_dots : (s : Scope) → not s.dots ≡ true → counts s varargs ≡ 1
+no_dots s e = flag_not s.dots e
+
+pub has_dots : (s : Scope) → not s.dots ≡ false → counts s varargs ≡ 0
+has_dots s e = flag_set s.dots e
+
+pub no_loop : (s : Scope) → not s.in_loop ≡ true → counts s breaks ≡ 1
+no_loop s e = flag_not s.in_loop e
+
+pub has_loop : (s : Scope) → not s.in_loop ≡ false → counts s breaks ≡ 0
+has_loop s e = flag_set s.in_loop e

@@ -23,23 +23,23 @@ mutual
   raised n (binary l o a e) = let x = raised (suc n) a in let y = raised 1 a in let z = raised (suc n) e in let v = raised 1 e in omega (arith, x, y, z, v)
   raised n (paren l e) = let x = raised (suc n) e in let y = raised 1 e in omega (arith, x, y)
 
-  raised_exprs : (n : ℕ) (es : Exprs) → max n (most_exprs nodes n es) ≡ n + most_exprs nodes 0 es
+  pub raised_exprs : (n : ℕ) (es : Exprs) → max n (most_exprs nodes n es) ≡ n + most_exprs nodes 0 es
   raised_exprs n no_exprs = omega arith
   raised_exprs n (expr_and e es) = let x = raised n e in let y = raised_exprs n es in omega (arith, x, y)
 
-  raised_fields : (n : ℕ) (fs : Fields) → max n (most_fields nodes n fs) ≡ n + most_fields nodes 0 fs
+  pub raised_fields : (n : ℕ) (fs : Fields) → max n (most_fields nodes n fs) ≡ n + most_fields nodes 0 fs
   raised_fields n no_fields = omega arith
   raised_fields n (item_and e fs) = let x = raised n e in let y = raised_fields n fs in omega (arith, x, y)
   raised_fields n (keyed_and k e fs) = let z = raised n k in let x = raised n e in let y = raised_fields n fs in omega (arith, x, y, z)
 
-  raised_func : (n : ℕ) (f : Func) → most_func nodes n f ≡ n + most_func nodes 0 f
+  pub raised_func : (n : ℕ) (f : Func) → most_func nodes n f ≡ n + most_func nodes 0 f
   raised_func n (func l ps d b) = let x = raised_block (suc n) b in let y = raised_block 1 b in omega (arith, x, y)
 
-  raised_block : (n : ℕ) (b : Block) → max n (most_block nodes n b) ≡ n + most_block nodes 0 b
+  pub raised_block : (n : ℕ) (b : Block) → max n (most_block nodes n b) ≡ n + most_block nodes 0 b
   raised_block n no_stats = omega arith
   raised_block n (stat_and st b) = let x = raised_stat n st in let y = raised_block n b in omega (arith, x, y)
 
-  raised_stat : (n : ℕ) (st : Stat) → max n (most_stat nodes n st) ≡ n + most_stat nodes 0 st
+  pub raised_stat : (n : ℕ) (st : Stat) → max n (most_stat nodes n st) ≡ n + most_stat nodes 0 st
   raised_stat n (assign l es vs) = let x = raised_exprs n es in let y = raised_exprs n vs in omega (arith, x, y)
   raised_stat n (local l xs es) = raised_exprs n es
   raised_stat n (call_stat l e) = let x = raised n e in omega (arith, x)
@@ -55,7 +55,7 @@ mutual
   raised_stat n (return_stat l es) = raised_exprs n es
   raised_stat n (break_stat l) = omega arith
 
-  raised_arms : (n : ℕ) (xs : Arms) → max n (most_arms nodes n xs) ≡ n + most_arms nodes 0 xs
+  pub raised_arms : (n : ℕ) (xs : Arms) → max n (most_arms nodes n xs) ≡ n + most_arms nodes 0 xs
   raised_arms n no_else = omega arith
   raised_arms n (else_block b) = let x = raised_block (suc n) b in let y = raised_block 1 b in omega (arith, x, y)
   raised_arms n (arm_and e b xs) = let x = raised_block (suc n) b in let y = raised_block 1 b in let z = raised n e in let v = raised_arms n xs in omega (arith, x, y, z, v)

@@ -1,7 +1,9 @@
 -- Keywords and symbols are words, each its own.
-use Rattle.std.proofs.Common.{◌≡◌, ℕ, suc, List, ◌∷◌, Option, Some, None, drop, refl, sym, ap, ◌∙◌, subst}
+use Rattle.std.proofs.Common.{◌≡◌, ℕ, suc, Bool, true, false, List, [], ◌∷◌, Option, Some, None, take, drop, refl, sym, ap, ◌∙◌, subst}
+use Rattle.std.proofs.lemmas.Bool.{false≢true}
 use Rattle.std.specs.Prelude.{slice_get}
 use Rattle.std.proofs.lemmas.Option.{none-some, same_Some}
+use Rattle.lua_token.specs.Value.{HasValue}
 use Rattle.lua_token.specs.declared.kind.Kind.{Kind}
 use Rattle.lua_token.specs.declared.kind.Kind.TheVariants as kinds
 use Rattle.lua_token.specs.declared.token.Token.{Token}
@@ -10,7 +12,7 @@ use Rattle.lua_tree.specs.Words as w
 use Rattle.lua_tree.specs.Words.{Word, Spot, Tok, tok, word_of}
 use Rattle.lua_tree.specs.Spelled.{Spelled, IsWord, kind_at, kind_of, word_of_kind, spot_behind}
 use Rattle.lua_tree.specs.Answer.{line_of}
-use Rattle.lua_tree.proofs.Places.{here, before_at}
+use Rattle.lua_tree.proofs.Places.{here, past, before_at}
 
 -- a keyword or a symbol
 abbrev pub IsKey : Kind → Type 0
@@ -150,3 +152,63 @@ key_stands {source = source} {first = first} {ts = ts} {words = words} spelled a
     let spot = spot_behind (before_at ts at first) u.0 in
     let is = key_word source u.0 k h.word is_key (subst (λ (j : Kind). IsWord source u.0 j h.word) u.2 h.is_word) in
     record { spot = spot; is = subst (λ (v : Word). drop at words ≡ tok v spot ∷ drop (suc at) words) is h.stands; line = ap line_of (sym u.1) }
+
+-- a word of a kind other than this one isn't its word
+kind_read : (source : List ℕ) (u : Token) (j k : Kind) (v : Word) → IsWord source u j v → kind_of_word v ≡ Some k → j ≡ k
+kind_read source u kinds.Name k v is e = absurd (none-some k (sym (ap kind_of_word is) ∙ e))
+kind_read source u (kinds.Number z) k v is e = absurd (none-some k (sym (ap kind_of_word is) ∙ e))
+kind_read source u kinds.Str k v is e = absurd (none-some k (sym (ap kind_of_word is.2) ∙ e))
+kind_read source u j k v is e = same_Some j k (sym (word_kind j tt) ∙ sym (ap kind_of_word is) ∙ e)
+
+-- where a keyword or a symbol doesn't stand, its word doesn't
+pub no_key : {source : List ℕ} {first : ℕ} {ts : List Token} {words : List Tok} → Spelled source first ts words → (at : ℕ) (k : Kind) (v : Word) → kind_of_word v ≡ Some k
+    → (kind_at ts at ≡ Some k → ⊥) → word_of (drop at words) ≡ v → ⊥
+no_key {source = source} {ts = ts} {words = words} spelled at k v is none e = elim (slice_get ts at) as (λ o. slice_get ts at ≡ o → ⊥) [
+  | None ↦ λ end. none-some k (ap kind_of_word (sym (ap word_of (past spelled at end)) ∙ e) ∙ is)
+  | Some u ↦ λ there.
+      let h = here spelled at u there in
+      let found = kind_read source u u.kind k h.word h.is_word (ap kind_of_word (sym (ap word_of h.stands) ∙ e) ∙ is) in
+      none (ap kind_of there ∙ ap Some found)
+] refl
+
+-- whether a word is a name, a string, a number
+abbrev pub is_name : Word → Bool
+is_name (w.name x) = true
+is_name v = false
+
+abbrev pub is_string : Word → Bool
+is_string (w.str x) = true
+is_string v = false
+
+name_read : (source : List ℕ) (u : Token) (j : Kind) (v : Word) → IsWord source u j v → is_name v ≡ true → j ≡ kinds.Name
+name_read source u kinds.Name v is e = refl
+name_read source u (kinds.Number z) v is e = absurd (false≢true (sym (ap is_name is) ∙ e))
+name_read source u kinds.Str v is e = absurd (false≢true (sym (ap is_name is.2) ∙ e))
+name_read source u j v is e = absurd (false≢true (sym (ap is_name is) ∙ e))
+
+-- where no name stands, no word is one
+pub no_name_there : {source : List ℕ} {first : ℕ} {ts : List Token} {words : List Tok} → Spelled source first ts words → (at : ℕ)
+    → (kind_at ts at ≡ Some kinds.Name → ⊥) → (x : List ℕ) → word_of (drop at words) ≡ w.name x → ⊥
+no_name_there {source = source} {ts = ts} spelled at none x e = elim (slice_get ts at) as (λ o. slice_get ts at ≡ o → ⊥) [
+  | None ↦ λ end. false≢true (ap is_name (sym (ap word_of (past spelled at end)) ∙ e))
+  | Some u ↦ λ there.
+      let h = here spelled at u there in
+      none (ap kind_of there ∙ ap Some (name_read source u u.kind h.word h.is_word (ap is_name (sym (ap word_of h.stands) ∙ e))))
+] refl
+
+-- where a name stands, it is the word
+pub name_stands : {bytes : List ℕ} {first : ℕ} {ts : List Token} {words : List Tok} → Spelled bytes first ts words → (at : ℕ) (u : Token) (x : List ℕ) → slice_get ts at ≡ Some u → u.kind ≡ kinds.Name
+    → x ≡ take u.length (drop u.start bytes) → Stands ts words at (w.name x)
+name_stands {bytes = bytes} {first = first} {ts = ts} {words = words} spelled at u x e is y =
+    let h = here spelled at u e in
+    let word = subst (λ (j : Kind). IsWord bytes u j h.word) is h.is_word in
+    record { spot = spot_behind (before_at ts at first) u; is = subst (λ (v : Word). drop at words ≡ tok v (spot_behind (before_at ts at first) u) ∷ drop (suc at) words) (word ∙ ap w.name (sym y)) h.stands; line = ap line_of (sym e) }
+
+-- where a string stands, the word is what it is for
+pub str_stands : {bytes : List ℕ} {first : ℕ} {ts : List Token} {words : List Tok} → Spelled bytes first ts words → (at : ℕ) → kind_at ts at ≡ Some kinds.Str
+    → (u : Token) × (y : List ℕ) × (slice_get ts at ≡ Some u) × HasValue bytes u y × Stands ts words at (w.str y)
+str_stands {bytes = bytes} {first = first} {ts = ts} {words = words} spelled at e =
+    let u = kind_token ts at kinds.Str e in
+    let h = here spelled at u.0 u.1 in
+    let is = subst (λ (j : Kind). IsWord bytes u.0 j h.word) u.2 h.is_word in
+    (u.0, is.0, u.1, is.1, record { spot = spot_behind (before_at ts at first) u.0; is = subst (λ (v : Word). drop at words ≡ tok v (spot_behind (before_at ts at first) u.0) ∷ drop (suc at) words) is.2 h.stands; line = ap line_of (sym u.1) })

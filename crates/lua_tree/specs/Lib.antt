@@ -11,4 +11,6 @@ pub mod FaultRows
 pub mod View
 pub mod Spelled
 pub mod Answer
+pub mod Begins
 pub mod Parsed
+pub mod Heads

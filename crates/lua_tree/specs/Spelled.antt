@@ -1,5 +1,5 @@
 -- The words that the tokens of a source are to the grammar.
-use Rattle.std.specs.Prelude.{ℕ, ◌≡◌, Bool, nat_lt, List, [], ◌∷◌, take, drop, Option, Some, None, slice_get, All}
+use Rattle.std.specs.Prelude.{ℕ, ℤ, ◌≡◌, Bool, nat_lt, List, [], ◌∷◌, take, drop, Option, Some, None, slice_get, All}
 use Rattle.lua_token.specs.Cuts.{StandsIn}
 use Rattle.lua_token.specs.Value.{HasValue}
 use Rattle.lua_token.specs.declared.kind.Kind.{Kind}
@@ -89,3 +89,8 @@ kind_at ts at = kind_of (slice_get ts at)
 abbrev pub IsMark : Kind → Type 0
 IsMark (kinds.Number z) = ⊥
 IsMark kind = Unit {0}
+
+-- the number that a token is, if it is one
+abbrev pub number_of_kind : Option Kind → Option ℤ
+number_of_kind (Some (kinds.Number z)) = Some z
+number_of_kind o = None

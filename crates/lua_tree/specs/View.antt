@@ -1,5 +1,5 @@
 -- The syntax tree that a value of the code stands for.
-use Rattle.std.specs.Prelude.{ℕ, List, [], ◌∷◌, Option, Some, None}
+use Rattle.std.specs.Prelude.{ℕ, List, [], ◌∷◌, map, Option, Some, None}
 use Rattle.lua_tree.specs.declared.tree.BinOp.{BinOp}
 use Rattle.lua_tree.specs.declared.tree.BinOp.TheVariants as binary
 use Rattle.lua_tree.specs.declared.tree.UnOp.{UnOp}
@@ -12,7 +12,7 @@ use Rattle.lua_tree.specs.declared.tree.Func.{Func, fold-Func}
 use Rattle.lua_tree.specs.declared.tree.Arm.{Arm, fold-Arm}
 use Rattle.lua_tree.specs.declared.tree.Block.{Block, fold-Block}
 use Rattle.lua_tree.specs.declared.tree.Stat.{Stat, fold-Stat}
-use Rattle.lua_tree.specs.declared.tree.StatKind.{StatKind, fold-StatKind}
+use Rattle.lua_tree.specs.declared.tree.StatKind.{StatKind}
 use Rattle.lua_tree.specs.Tree as t
 
 -- operators
@@ -140,5 +140,9 @@ block_view = fold-Block (ℕ → t.Expr) (t.Fields → t.Fields) (ℕ → t.Stat
 abbrev pub stat_view : Stat → t.Stat
 stat_view = fold-Stat (ℕ → t.Expr) (t.Fields → t.Fields) (ℕ → t.Stat) (t.Arms → t.Arms) t.Block t.Expr t.Func t.Stat expr_kind_step field_step stat_kind_step arm_step block_step expr_step func_step stat_step
 
-abbrev pub stat_kind_view : StatKind → ℕ → t.Stat
-stat_kind_view = fold-StatKind (ℕ → t.Expr) (t.Fields → t.Fields) (ℕ → t.Stat) (t.Arms → t.Arms) t.Block t.Expr t.Func t.Stat expr_kind_step field_step stat_kind_step arm_step block_step expr_step func_step stat_step
+-- lists of them
+abbrev pub exprs_view : List Expr → t.Exprs
+exprs_view es = exprs_of (map expr_view es)
+
+abbrev pub fields_view : List Field → t.Fields
+fields_view fs = fields_of (map field_view fs)

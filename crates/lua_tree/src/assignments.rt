@@ -1,7 +1,11 @@
 // Calls, assignments and declarations (Lua 5.1 manual §2.4.3, §2.4.6, §2.4.7).
-ghost use Rattle.std.specs.Prelude.{◌≡◌, ◌+◌, ◌<◌, ◌≤◌, Some, IfOk, IfSome, length, slice_get, IsTrue};
+ghost use Rattle.std.specs.Prelude.{◌≡◌, ◌∷◌, ◌+◌, ◌<◌, ◌≤◌, Some, IfOk, length, drop, true};
+ghost use Rattle.lua_tree.specs.Tree.{expr_and};
+ghost use Rattle.lua_tree.specs.Reading.{expr, init, more_names as more_names_rule, more_targets, prefix, prefix_stat, program, shape, stat as stat_rule, target_of, targeted, then};
 ghost use Rattle.lua_tree.specs.Spelled.{kind_at};
-ghost use Rattle.lua_tree.specs.Answer.{IsCut, Fits, Moves, Passes, Behind, line_of, declares};
+ghost use Rattle.lua_tree.specs.View.{expr_view, exprs_view, stat_view};
+ghost use Rattle.lua_tree.specs.Begins.{IsVariable, shape_view, begins_prefix};
+ghost use Rattle.lua_tree.specs.Answer.{Answers, Behind, Fits, IsCut, Moves, OfWords, Parts, Passes, counts, declares, expr_tall, exprs_tall, stat_tall};
 
 use crate::expressions::expressions;
 use crate::scope::Scope;
@@ -25,6 +29,9 @@ pub(crate) fn more_names(
     ensures forth { IfOk result (λ read. at ≤ read.at) }
     ensures within { IfOk result (λ read. read.at ≤ length source.now.tokens.now) }
     ensures few { IfOk result (λ read. locals + length read.node ≤ 200) }
+    ensures answer { OfWords source.now
+        (Answers (λ names. drop 1 names) (program (more_names_rule (locals + 1))) at result) }
+    ensures first { IfOk result (λ read. read.node ≡ first ∷ drop 1 read.node) }
 {
     let mut names = Vec::new(source.alloc);
     names.push(first)?;
@@ -46,8 +53,12 @@ pub(crate) fn local_variables(source: &Source, at: usize, scope: Scope) -> Resul
     requires cut { IsCut source.now }
     requires fits { Fits scope }
     requires some { at < length source.now.tokens.now }
-    ensures moves { IfOk result (Moves source.now.tokens.now at scope.depth) }
+    requires here { kind_at source.now.tokens.now at ≡ Some Kind.Local }
+    requires plain { (kind_at source.now.tokens.now (at + 1) ≡ Some Kind.Function) → ⊥ }
+    ensures moves { IfOk result (Moves source.now.tokens.now at scope.depth stat_tall) }
     ensures room { IfOk result (λ read. scope.locals + declares read.node ≤ 200) }
+    ensures answer { OfWords source.now
+        (Answers stat_view (program (stat_rule (counts scope))) at result) }
 {
     let name = source.local_at(at + 1, scope.locals)?;
     let names = more_names(source, at + 2, scope.locals, name)?;
@@ -68,7 +79,9 @@ fn initial_values(source: &Source, at: usize, scope: Scope) -> Result<Read<List<
     requires cut { IsCut source.now }
     requires fits { Fits scope }
     requires within { at ≤ length source.now.tokens.now }
-    ensures moves { IfOk result (Passes source.now.tokens.now at scope.depth) }
+    ensures moves { IfOk result (Passes source.now.tokens.now at scope.depth exprs_tall) }
+    ensures answer { OfWords source.now
+        (Answers exprs_view (program (init (counts scope))) at result) }
 {
     if source.is(at, Kind::Assign) {
         may_nest(scope.depth + 1, at)?;
@@ -91,8 +104,11 @@ pub(crate) fn call_or_assignment(
 ) -> Result<Read<Stat>, Stop>
     requires cut { IsCut source.now }
     requires fits { Fits scope }
-    ensures moves { IfOk result (Moves source.now.tokens.now at scope.depth) }
+    requires here { begins_prefix (kind_at source.now.tokens.now at) ≡ true }
+    ensures moves { IfOk result (Moves source.now.tokens.now at scope.depth stat_tall) }
     ensures room { IfOk result (λ read. scope.locals + declares read.node ≤ 200) }
+    ensures answer { OfWords source.now
+        (Answers stat_view (program (stat_rule (counts scope))) at result) }
 {
     let line = source.line_at(at);
     let first = prefix_expression(source, at, scope, Position::Leading)?;
@@ -121,8 +137,12 @@ fn assignment(
     requires cut { IsCut source.now }
     requires fits { Fits scope }
     requires behind { Behind source.now.tokens.now scope.depth first }
-    ensures moves { IfOk result (Moves source.now.tokens.now first.at scope.depth) }
+    requires here { IsVariable first.node }
+    ensures moves { IfOk result (Moves source.now.tokens.now first.at scope.depth stat_tall) }
     ensures room { IfOk result (λ read. scope.locals + declares read.node ≤ 200) }
+    ensures answer { OfWords source.now
+        (Answers stat_view (program (prefix_stat line (counts scope) (expr_view first.node)))
+        first.at result) }
 {
     let mut targets = Vec::new(source.alloc);
     targets.push(first.node)?;
@@ -151,7 +171,11 @@ fn assignment(
 fn target(source: &Source, at: usize, scope: Scope) -> Result<Read<Expr>, Stop>
     requires cut { IsCut source.now }
     requires fits { Fits scope }
-    ensures moves { IfOk result (Moves source.now.tokens.now at scope.depth) }
+    ensures moves { IfOk result (Moves source.now.tokens.now at scope.depth expr_tall) }
+    ensures answer { OfWords source.now
+        (Parts (λ e. program (more_targets (counts scope))) (λ e rest. expr_and (expr_view e) rest)
+        (then (prefix targeted (counts scope)) (λ e. target_of (counts scope) e (shape e)))
+        at result) }
 {
     let read = prefix_expression(source, at, scope, Position::Target)?;
     match shape_of(&read.node) {
@@ -168,7 +192,9 @@ enum Shape {
     Other,
 }
 
-fn shape_of(expr: &Expr) -> Shape {
+fn shape_of(expr: &Expr) -> Shape
+    ensures { shape_view result ≡ shape (expr_view expr.now) }
+{
     match expr.what {
         ExprKind::Name(_) | ExprKind::Index(_, _) => Shape::Variable,
         ExprKind::Call(_, _) | ExprKind::Method(_, _, _) => Shape::Call,

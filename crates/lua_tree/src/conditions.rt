@@ -1,7 +1,9 @@
 // `if` (Lua 5.1 manual §2.4.4).
-ghost use Rattle.std.specs.Prelude.{◌≡◌, ◌+◌, ◌<◌, ◌≤◌, Some, IfOk, IfSome, length, slice_get, IsTrue};
+ghost use Rattle.std.specs.Prelude.{◌≡◌, ◌+◌, ◌<◌, ◌≤◌, Some, IfOk, length, option_map};
+ghost use Rattle.lua_tree.specs.Reading.{arms as arms_rule, more_arms, program, stat as stat_rule};
 ghost use Rattle.lua_tree.specs.Spelled.{kind_at};
-ghost use Rattle.lua_tree.specs.Answer.{IsCut, Fits, Moves, Passes, Behind, line_of, declares};
+ghost use Rattle.lua_tree.specs.View.{arm_view, block_view, else_of, stat_view};
+ghost use Rattle.lua_tree.specs.Answer.{Answers, Fits, IsCut, Moves, OfWords, Parts, arm_tall, counts, declares, else_tall, stat_tall};
 
 use crate::expressions::expression;
 use crate::scope::Scope;
@@ -18,8 +20,11 @@ pub(crate) fn if_statement(source: &Source, at: usize, scope: Scope) -> Result<R
     requires cut { IsCut source.now }
     requires fits { Fits scope }
     requires some { at < length source.now.tokens.now }
-    ensures moves { IfOk result (Moves source.now.tokens.now at scope.depth) }
+    requires here { kind_at source.now.tokens.now at ≡ Some Kind.If }
+    ensures moves { IfOk result (Moves source.now.tokens.now at scope.depth stat_tall) }
     ensures room { IfOk result (λ read. scope.locals + declares read.node ≤ 200) }
+    ensures answer { OfWords source.now
+        (Answers stat_view (program (stat_rule (counts scope))) at result) }
 {
     may_nest(scope.depth + 1, at)?;
     let line = source.line_at(at);
@@ -51,7 +56,10 @@ fn arm(source: &Source, at: usize, scope: Scope) -> Result<Read<Arm>, Stop>
     requires cut { IsCut source.now }
     requires fits { Fits scope }
     requires deep { scope.depth + 1 ≤ 200 }
-    ensures moves { IfOk result (Moves source.now.tokens.now at scope.depth) }
+    ensures moves { IfOk result (Moves source.now.tokens.now at scope.depth arm_tall) }
+    ensures answer { OfWords source.now
+        (Parts (λ arm. program (more_arms (counts scope))) (λ arm rest. arm_view arm rest)
+        (program (arms_rule (counts scope))) at result) }
 {
     let test = expression(source, at, scope, 0)?;
     let at = source.expect(test.at, Kind::Then)?;
@@ -72,7 +80,11 @@ fn else_part(source: &Source, at: usize, scope: Scope) -> Result<Read<Option<Blo
     requires cut { IsCut source.now }
     requires fits { Fits scope }
     requires deep { scope.depth + 1 ≤ 200 }
-    ensures moves { IfOk result (Moves source.now.tokens.now at scope.depth) }
+    requires here { (kind_at source.now.tokens.now at ≡ Some Kind.ElseIf) → ⊥ }
+    ensures moves { IfOk result (Moves source.now.tokens.now at scope.depth else_tall) }
+    ensures answer { OfWords source.now
+        (Answers (λ o. else_of (option_map block_view o)) (program (more_arms (counts scope)))
+        at result) }
 {
     if !source.is(at, Kind::Else) {
         return Ok(Read {

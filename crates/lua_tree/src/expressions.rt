@@ -1,7 +1,10 @@
 // Expressions and their operators (Lua 5.1 manual §2.5).
-ghost use Rattle.std.specs.Prelude.{◌≡◌, ◌+◌, ◌<◌, ◌≤◌, Some, IfOk, IfSome, length, slice_get, IsTrue};
+ghost use Rattle.std.specs.Prelude.{◌≡◌, ◌+◌, ◌<◌, ◌≤◌, ℕ, Some, None, IfOk, IfSome, length, slice_get, true};
+ghost use Rattle.lua_tree.specs.Reading.{expr, exprs, first as first_rule, more, program};
 ghost use Rattle.lua_tree.specs.Spelled.{kind_at};
-ghost use Rattle.lua_tree.specs.Answer.{IsCut, Fits, Moves, Passes, Behind, line_of, declares};
+ghost use Rattle.lua_tree.specs.View.{expr_kind_view, expr_view, exprs_view};
+ghost use Rattle.lua_tree.specs.Begins.{ConstantAt, is_number, NoOperatorAt, OperatorAt, UnaryAt, level_of};
+ghost use Rattle.lua_tree.specs.Answer.{Answers, Behind, Fits, IsCut, Moves, OfWords, Parts, Passes, counts, expr_tall, exprs_tall, line_of};
 
 use crate::functions::function_expression;
 use crate::operators::{UNARY, binary_operator, priority_of};
@@ -23,7 +26,9 @@ pub(crate) fn expressions(
 ) -> Result<Read<List<Expr>>, Stop>
     requires cut { IsCut source.now }
     requires fits { Fits scope }
-    ensures moves { IfOk result (Moves source.now.tokens.now at scope.depth) }
+    ensures moves { IfOk result (Moves source.now.tokens.now at scope.depth exprs_tall) }
+    ensures answer { OfWords source.now
+        (Answers exprs_view (program (exprs (counts scope))) at result) }
 {
     let first = expression(source, at, scope, 0)?;
     let mut items = Vec::new(source.alloc);
@@ -53,7 +58,9 @@ pub(crate) fn expression(
 ) -> Result<Read<Expr>, Stop>
     requires cut { IsCut source.now }
     requires fits { Fits scope }
-    ensures moves { IfOk result (Moves source.now.tokens.now at scope.depth) }
+    ensures moves { IfOk result (Moves source.now.tokens.now at scope.depth expr_tall) }
+    ensures answer { OfWords source.now
+        (Answers expr_view (program (expr level (counts scope))) at result) }
 {
     let left = operand(source, at, scope)?;
     operations(source, left, scope, level)
@@ -70,7 +77,10 @@ pub(crate) fn operations(
     requires cut { IsCut source.now }
     requires fits { Fits scope }
     requires behind { Behind source.now.tokens.now scope.depth first }
-    ensures moves { IfOk result (Passes source.now.tokens.now first.at scope.depth) }
+    ensures moves { IfOk result (Passes source.now.tokens.now first.at scope.depth expr_tall) }
+    ensures answer { OfWords source.now
+        (Answers expr_view (program (more level (counts scope) (expr_view first.node))) first.at
+        result) }
 {
     let mut left = first;
     'operators: while let Some(op) = operator_at(source, left.at, level) {
@@ -81,7 +91,9 @@ pub(crate) fn operations(
 
 // The binary operator that stands there, if it is of this level or a tighter one.
 fn operator_at(source: &Source, at: usize, level: u32) -> Option<BinOp>
-    ensures { IfSome result (λ op. at < length source.now.tokens.now) }
+    ensures within { IfSome result (λ op. at < length source.now.tokens.now) }
+    ensures some { IfSome result (λ op. OperatorAt source.now at op × level ≤ level_of op) }
+    ensures none { result ≡ None → NoOperatorAt source.now at level }
 {
     let op = binary_operator(source.kind_at(at)?)?;
     if level <= priority_of(op).level {
@@ -98,7 +110,11 @@ fn operation(source: &Source, left: Read<Expr>, scope: Scope, op: BinOp) -> Resu
     requires fits { Fits scope }
     requires behind { Behind source.now.tokens.now scope.depth left }
     requires some { left.at < length source.now.tokens.now }
-    ensures moves { IfOk result (Moves source.now.tokens.now left.at scope.depth) }
+    requires here { OperatorAt source.now left.at op }
+    ensures moves { IfOk result (Moves source.now.tokens.now left.at scope.depth expr_tall) }
+    ensures answer { (p : ℕ) → p ≤ level_of op → OfWords source.now
+        (Parts (λ e. program (more p (counts scope) (expr_view e))) (λ e whole. whole)
+        (program (more p (counts scope) (expr_view left.node))) left.at result) }
 {
     may_nest(scope.depth + 1 + left.height, left.at)?;
     let line = source.line_at(left.at);
@@ -122,20 +138,25 @@ fn operation(source: &Source, left: Read<Expr>, scope: Scope, op: BinOp) -> Resu
 fn operand(source: &Source, at: usize, scope: Scope) -> Result<Read<Expr>, Stop>
     requires cut { IsCut source.now }
     requires fits { Fits scope }
-    ensures moves { IfOk result (Moves source.now.tokens.now at scope.depth) }
+    ensures moves { IfOk result (Moves source.now.tokens.now at scope.depth expr_tall) }
+    ensures answer { OfWords source.now
+        (Answers expr_view (program (first_rule (counts scope))) at result) }
 {
-    match source.kind_at(at) {
-        Some(Kind::Function) => function_expression(source, at, scope),
-        Some(Kind::OpenBrace) => table(source, at, scope),
-        Some(Kind::Not) => unary(source, at, scope, UnOp::Not),
-        Some(Kind::Hash) => unary(source, at, scope, UnOp::Length),
-        Some(Kind::Minus) => unary(source, at, scope, UnOp::Minus),
-        Some(Kind::Dots) => dots(source, at, scope),
-        Some(Kind::Str) => string(source, at, scope),
-        Some(Kind::Nil) => constant(source, at, scope, ExprKind::Nil),
-        Some(Kind::True) => constant(source, at, scope, ExprKind::True),
-        Some(Kind::False) => constant(source, at, scope, ExprKind::False),
-        Some(Kind::Number(_)) => number(source, at, scope),
+    let Some(kind) = source.kind_at(at) else {
+        return Err(Stop::At(Fault::Unexpected, at));
+    };
+    match kind {
+        Kind::Function => function_expression(source, at, scope),
+        Kind::OpenBrace => table(source, at, scope),
+        Kind::Not => unary(source, at, scope, UnOp::Not),
+        Kind::Hash => unary(source, at, scope, UnOp::Length),
+        Kind::Minus => unary(source, at, scope, UnOp::Minus),
+        Kind::Dots => dots(source, at, scope),
+        Kind::Str => string(source, at, scope),
+        Kind::Nil => constant(source, at, scope, ExprKind::Nil),
+        Kind::True => constant(source, at, scope, ExprKind::True),
+        Kind::False => constant(source, at, scope, ExprKind::False),
+        Kind::Number(_) => number(source, at, scope),
         _ => prefix_expression(source, at, scope, Position::Operand),
     }
 }
@@ -146,7 +167,10 @@ fn unary(source: &Source, at: usize, scope: Scope, op: UnOp) -> Result<Read<Expr
     requires cut { IsCut source.now }
     requires fits { Fits scope }
     requires some { at < length source.now.tokens.now }
-    ensures moves { IfOk result (Moves source.now.tokens.now at scope.depth) }
+    requires here { UnaryAt source.now at op }
+    ensures moves { IfOk result (Moves source.now.tokens.now at scope.depth expr_tall) }
+    ensures answer { OfWords source.now
+        (Answers expr_view (program (first_rule (counts scope))) at result) }
 {
     may_nest(scope.depth + 2, at)?;
     let line = source.line_at(at);
@@ -169,7 +193,10 @@ fn dots(source: &Source, at: usize, scope: Scope) -> Result<Read<Expr>, Stop>
     requires cut { IsCut source.now }
     requires fits { Fits scope }
     requires some { at < length source.now.tokens.now }
-    ensures moves { IfOk result (Moves source.now.tokens.now at scope.depth) }
+    requires here { kind_at source.now.tokens.now at ≡ Some Kind.Dots }
+    ensures moves { IfOk result (Moves source.now.tokens.now at scope.depth expr_tall) }
+    ensures answer { OfWords source.now
+        (Answers expr_view (program (first_rule (counts scope))) at result) }
 {
     if !scope.dots {
         return Err(Stop::At(Fault::VarargOutside, at));
@@ -183,7 +210,9 @@ fn string(source: &Source, at: usize, scope: Scope) -> Result<Read<Expr>, Stop>
     requires cut { IsCut source.now }
     requires fits { Fits scope }
     requires here { kind_at source.now.tokens.now at ≡ Some Kind.Str }
-    ensures moves { IfOk result (Moves source.now.tokens.now at scope.depth) }
+    ensures moves { IfOk result (Moves source.now.tokens.now at scope.depth expr_tall) }
+    ensures answer { OfWords source.now
+        (Answers expr_view (program (first_rule (counts scope))) at result) }
 {
     may_nest(scope.depth + 1, at)?;
     Ok(leaf(source, at, ExprKind::Str(source.string_at(at)?)))
@@ -194,7 +223,10 @@ fn number(source: &Source, at: usize, scope: Scope) -> Result<Read<Expr>, Stop>
     requires cut { IsCut source.now }
     requires fits { Fits scope }
     requires some { at < length source.now.tokens.now }
-    ensures moves { IfOk result (Moves source.now.tokens.now at scope.depth) }
+    requires here { is_number (kind_at source.now.tokens.now at) ≡ true }
+    ensures moves { IfOk result (Moves source.now.tokens.now at scope.depth expr_tall) }
+    ensures answer { OfWords source.now
+        (Answers expr_view (program (first_rule (counts scope))) at result) }
 {
     may_nest(scope.depth + 1, at)?;
     match source.number_at(at) {
@@ -208,7 +240,10 @@ fn constant(source: &Source, at: usize, scope: Scope, what: ExprKind) -> Result<
     requires cut { IsCut source.now }
     requires fits { Fits scope }
     requires some { at < length source.now.tokens.now }
-    ensures moves { IfOk result (Moves source.now.tokens.now at scope.depth) }
+    requires here { ConstantAt source.now at what }
+    ensures moves { IfOk result (Moves source.now.tokens.now at scope.depth expr_tall) }
+    ensures answer { OfWords source.now
+        (Answers expr_view (program (first_rule (counts scope))) at result) }
 {
     may_nest(scope.depth + 1, at)?;
     Ok(leaf(source, at, what))
@@ -217,6 +252,8 @@ fn constant(source: &Source, at: usize, scope: Scope, what: ExprKind) -> Result<
 // An expression of the token there alone.
 pub(crate) fn leaf(source: &Source, at: usize, what: ExprKind) -> Read<Expr>
     requires some { at < length source.now.tokens.now }
+    ensures view { expr_view result.node
+        ≡ expr_kind_view what (line_of (slice_get source.now.tokens.now at)) }
     ensures height { result.height ≡ 1 }
     ensures at { result.at ≡ at + 1 }
 {

@@ -1,7 +1,11 @@
 // Functions: their names, parameters and bodies (Lua 5.1 manual §2.5.9).
-ghost use Rattle.std.specs.Prelude.{◌≡◌, ◌+◌, ◌<◌, ◌≤◌, Some, IfOk, IfSome, length, slice_get, IsTrue, vec_len};
+ghost use Rattle.std.specs.Prelude.{◌≡◌, ◌+◌, ◌<◌, ◌≤◌, Some, IfErr, IfOk, length, vec_len};
+ghost use Rattle.lua_tree.specs.Reading.{first as first_rule, func_body, program, stat as stat_rule};
 ghost use Rattle.lua_tree.specs.Spelled.{kind_at};
-ghost use Rattle.lua_tree.specs.Answer.{IsCut, Fits, Moves, Passes, Behind, line_of, declares};
+ghost use Rattle.lua_tree.specs.View.{expr_view, func_view, stat_view};
+ghost use Rattle.lua_tree.specs.Begins.{hidden_of};
+ghost use Rattle.lua_tree.specs.Heads.{FunctionNameAt, ParametersAt};
+ghost use Rattle.lua_tree.specs.Answer.{Answers, Fits, IsCut, Moves, OfWords, counts, declares, expr_tall, func_tall, stat_tall};
 
 use crate::scope::Scope;
 use crate::source::{Read, Source, may_nest};
@@ -39,7 +43,10 @@ pub(crate) fn function_expression(
     requires cut { IsCut source.now }
     requires fits { Fits scope }
     requires some { at < length source.now.tokens.now }
-    ensures moves { IfOk result (Moves source.now.tokens.now at scope.depth) }
+    requires here { kind_at source.now.tokens.now at ≡ Some Kind.Function }
+    ensures moves { IfOk result (Moves source.now.tokens.now at scope.depth expr_tall) }
+    ensures answer { OfWords source.now
+        (Answers expr_view (program (first_rule (counts scope))) at result) }
 {
     may_nest(scope.depth + 2, at)?;
     let line = source.line_at(at);
@@ -64,8 +71,11 @@ pub(crate) fn function_statement(
     requires cut { IsCut source.now }
     requires fits { Fits scope }
     requires some { at < length source.now.tokens.now }
-    ensures moves { IfOk result (Moves source.now.tokens.now at scope.depth) }
+    requires here { kind_at source.now.tokens.now at ≡ Some Kind.Function }
+    ensures moves { IfOk result (Moves source.now.tokens.now at scope.depth stat_tall) }
     ensures room { IfOk result (λ read. scope.locals + declares read.node ≤ 200) }
+    ensures answer { OfWords source.now
+        (Answers stat_view (program (stat_rule (counts scope))) at result) }
 {
     may_nest(scope.depth + 1, at)?;
     let line = source.line_at(at);
@@ -89,8 +99,12 @@ pub(crate) fn local_function(source: &Source, at: usize, scope: Scope) -> Result
     requires fits { Fits scope }
     requires some { at < length source.now.tokens.now }
     requires next { at + 1 < length source.now.tokens.now }
-    ensures moves { IfOk result (Moves source.now.tokens.now at scope.depth) }
+    requires function { kind_at source.now.tokens.now (at + 1) ≡ Some Kind.Function }
+    requires here { kind_at source.now.tokens.now at ≡ Some Kind.Local }
+    ensures moves { IfOk result (Moves source.now.tokens.now at scope.depth stat_tall) }
     ensures room { IfOk result (λ read. scope.locals + declares read.node ≤ 200) }
+    ensures answer { OfWords source.now
+        (Answers stat_view (program (stat_rule (counts scope))) at result) }
 {
     may_nest(scope.depth + 1, at + 1)?;
     let name = source.local_at(at + 2, scope.locals)?;
@@ -110,7 +124,10 @@ pub(crate) fn local_function(source: &Source, at: usize, scope: Scope) -> Result
 fn function_name(source: &Source, at: usize, scope: Scope) -> Result<FunctionName, Stop>
     requires cut { IsCut source.now }
     requires fits { Fits scope }
-    ensures moves { IfOk result (λ name. Moves source.now.tokens.now at scope.depth name.target) }
+    requires deep { scope.depth + 1 ≤ 200 }
+    ensures moves { IfOk result
+        (λ name. Moves source.now.tokens.now at scope.depth expr_tall name.target) }
+    ensures answer { OfWords source.now (FunctionNameAt (counts scope) at result) }
 {
     let mut target = name(source, at, scope)?;
     'names: while source.is(target.at, Kind::Dot) {
@@ -140,7 +157,9 @@ fn body(
     requires cut { IsCut source.now }
     requires fits { Fits scope }
     requires deep { scope.depth + 1 ≤ 200 }
-    ensures moves { IfOk result (Moves source.now.tokens.now at scope.depth) }
+    ensures moves { IfOk result (Moves source.now.tokens.now at scope.depth func_tall) }
+    ensures answer { OfWords source.now
+        (Answers func_view (program (func_body line (hidden_of method) (counts scope))) at result) }
 {
     let at = source.expect(at, Kind::OpenParen)?;
     let parameters = parameter_list(source, at, method)?;
@@ -163,7 +182,9 @@ fn body(
 
 // `self`, in a method.
 fn hidden_parameters(source: &Source, method: bool) -> Result<Vec<Text>, Stop>
-    ensures { IfOk result (λ names. vec_len names ≤ 1) }
+    ensures few { IfOk result (λ names. vec_len names ≤ 1) }
+    ensures ok { IfOk result (λ names. names.items ≡ hidden_of method) }
+    ensures err { IfErr result (λ stop. stop ≡ Stop.Memory) }
 {
     let mut names = Vec::new(source.alloc);
     if !method {
@@ -179,6 +200,7 @@ fn parameter_list(source: &Source, at: usize, method: bool) -> Result<Parameters
     ensures forth { IfOk result (λ read. at < read.at) }
     ensures within { IfOk result (λ read. read.at ≤ length source.now.tokens.now) }
     ensures room { IfOk result (λ read. vec_len read.names ≤ 200) }
+    ensures answer { OfWords source.now (ParametersAt method at result) }
 {
     let mut names = hidden_parameters(source, method)?;
     if source.is(at, Kind::CloseParen) {

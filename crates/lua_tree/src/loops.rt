@@ -1,7 +1,10 @@
 // `while`, `repeat` and `for` (Lua 5.1 manual §2.4.4, §2.4.5).
-ghost use Rattle.std.specs.Prelude.{◌≡◌, ◌+◌, ◌<◌, ◌≤◌, Some, IfOk, IfSome, length, slice_get, IsTrue};
+ghost use Rattle.std.specs.Prelude.{◌≡◌, ◌+◌, ◌<◌, ◌≤◌, ℕ, Some, IfOk, length, option_map};
+ghost use Rattle.lua_tree.specs.Tree.{Bytes, Expr as Operand};
+ghost use Rattle.lua_tree.specs.Reading.{for_rest, loop_block, num_for_rest, program, stat as stat_rule};
 ghost use Rattle.lua_tree.specs.Spelled.{kind_at};
-ghost use Rattle.lua_tree.specs.Answer.{IsCut, Fits, Moves, Passes, Behind, line_of, declares};
+ghost use Rattle.lua_tree.specs.View.{block_view, expr_view, num_for_of, stat_view};
+ghost use Rattle.lua_tree.specs.Answer.{Answers, Fits, IsCut, Moves, OfWords, Parts, Passes, block_tall, counts, declares, stat_tall, step_tall};
 
 use crate::assignments::more_names;
 use crate::expressions::{expression, expressions};
@@ -19,8 +22,11 @@ pub(crate) fn while_statement(source: &Source, at: usize, scope: Scope) -> Resul
     requires cut { IsCut source.now }
     requires fits { Fits scope }
     requires some { at < length source.now.tokens.now }
-    ensures moves { IfOk result (Moves source.now.tokens.now at scope.depth) }
+    requires here { kind_at source.now.tokens.now at ≡ Some Kind.While }
+    ensures moves { IfOk result (Moves source.now.tokens.now at scope.depth stat_tall) }
     ensures room { IfOk result (λ read. scope.locals + declares read.node ≤ 200) }
+    ensures answer { OfWords source.now
+        (Answers stat_view (program (stat_rule (counts scope))) at result) }
 {
     may_nest(scope.depth + 1, at)?;
     let line = source.line_at(at);
@@ -31,7 +37,7 @@ pub(crate) fn while_statement(source: &Source, at: usize, scope: Scope) -> Resul
             line,
             what: StatKind::While(test.node, body.node),
         },
-        height: test.height.max(body.height),
+        height: test.height.max(1 + body.height),
         at: body.at,
     })
 }
@@ -43,13 +49,15 @@ fn do_block(source: &Source, at: usize, scope: Scope, locals: u32) -> Result<Rea
     requires fits { Fits scope }
     requires deep { scope.depth + 1 ≤ 200 }
     requires locals { scope.locals + locals ≤ 200 }
-    ensures moves { IfOk result (Moves source.now.tokens.now at scope.depth) }
+    ensures moves { IfOk result (Moves source.now.tokens.now at (scope.depth + 1) block_tall) }
+    ensures answer { OfWords source.now
+        (Answers block_view (program (loop_block locals (counts scope))) at result) }
 {
     let at = source.expect(at, Kind::Do)?;
     let body = block(source, at, scope.in_loop(locals))?;
     Ok(Read {
         node: body.node,
-        height: 1 + body.height,
+        height: body.height,
         at: source.expect(body.at, Kind::End)?,
     })
 }
@@ -60,8 +68,11 @@ pub(crate) fn repeat_statement(source: &Source, at: usize, scope: Scope) -> Resu
     requires cut { IsCut source.now }
     requires fits { Fits scope }
     requires some { at < length source.now.tokens.now }
-    ensures moves { IfOk result (Moves source.now.tokens.now at scope.depth) }
+    requires here { kind_at source.now.tokens.now at ≡ Some Kind.Repeat }
+    ensures moves { IfOk result (Moves source.now.tokens.now at scope.depth stat_tall) }
     ensures room { IfOk result (λ read. scope.locals + declares read.node ≤ 200) }
+    ensures answer { OfWords source.now
+        (Answers stat_view (program (stat_rule (counts scope))) at result) }
 {
     may_nest(scope.depth + 1, at)?;
     let line = source.line_at(at);
@@ -84,8 +95,11 @@ pub(crate) fn for_statement(source: &Source, at: usize, scope: Scope) -> Result<
     requires cut { IsCut source.now }
     requires fits { Fits scope }
     requires some { at < length source.now.tokens.now }
-    ensures moves { IfOk result (Moves source.now.tokens.now at scope.depth) }
+    requires here { kind_at source.now.tokens.now at ≡ Some Kind.For }
+    ensures moves { IfOk result (Moves source.now.tokens.now at scope.depth stat_tall) }
     ensures room { IfOk result (λ read. scope.locals + declares read.node ≤ 200) }
+    ensures answer { OfWords source.now
+        (Answers stat_view (program (stat_rule (counts scope))) at result) }
 {
     may_nest(scope.depth + 1, at)?;
     let line = source.line_at(at);
@@ -111,8 +125,11 @@ fn numeric_for(
     requires deep { scope.depth + 1 ≤ 200 }
     requires some { at < length source.now.tokens.now }
     requires room { scope.locals + 1 ≤ 200 }
-    ensures moves { IfOk result (Moves source.now.tokens.now at scope.depth) }
+    requires here { kind_at source.now.tokens.now at ≡ Some Kind.Assign }
+    ensures moves { IfOk result (Moves source.now.tokens.now at scope.depth stat_tall) }
     ensures room { IfOk result (λ read. scope.locals + declares read.node ≤ 200) }
+    ensures answer { OfWords source.now
+        (Answers stat_view (program (for_rest line name (counts scope))) at result) }
 {
     let first = expression(source, at + 1, scope, 0)?;
     let at = source.expect(first.at, Kind::Comma)?;
@@ -125,7 +142,7 @@ fn numeric_for(
             line,
             what: StatKind::NumFor(name, first.node, limit.node, step.node, body.node),
         },
-        height: values.max(body.height),
+        height: values.max(1 + body.height),
         at: body.at,
     })
 }
@@ -136,7 +153,11 @@ fn step(source: &Source, at: usize, scope: Scope) -> Result<Read<Option<Expr>>, 
     requires cut { IsCut source.now }
     requires fits { Fits scope }
     requires within { at ≤ length source.now.tokens.now }
-    ensures moves { IfOk result (Passes source.now.tokens.now at scope.depth) }
+    ensures moves { IfOk result (Passes source.now.tokens.now at scope.depth step_tall) }
+    ensures answer { (line : ℕ) (x : Bytes) (a b : Operand) → OfWords source.now
+        (Parts (λ o. program (loop_block 1 (counts scope)))
+        (λ o body. num_for_of x a b (option_map expr_view o) body line)
+        (program (num_for_rest line x a b (counts scope))) at result) }
 {
     if !source.is(at, Kind::Comma) {
         return Ok(Read {
@@ -167,8 +188,11 @@ fn generic_for(
     requires deep { scope.depth + 1 ≤ 200 }
     requires within { at ≤ length source.now.tokens.now }
     requires room { scope.locals + 1 ≤ 200 }
-    ensures moves { IfOk result (Moves source.now.tokens.now at scope.depth) }
+    requires here { (kind_at source.now.tokens.now at ≡ Some Kind.Assign) → ⊥ }
+    ensures moves { IfOk result (Moves source.now.tokens.now at scope.depth stat_tall) }
     ensures room { IfOk result (λ read. scope.locals + declares read.node ≤ 200) }
+    ensures answer { OfWords source.now
+        (Answers stat_view (program (for_rest line name (counts scope))) at result) }
 {
     let names = more_names(source, at, scope.locals, name)?;
     let count = names.node.len() as u32;
@@ -180,7 +204,7 @@ fn generic_for(
             line,
             what: StatKind::GenFor(names.node, values.node, body.node),
         },
-        height: values.height.max(body.height),
+        height: values.height.max(1 + body.height),
         at: body.at,
     })
 }

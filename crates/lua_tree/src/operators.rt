@@ -1,5 +1,6 @@
 // The operators and how tight they bind (Lua 5.1 manual §2.5.6).
-ghost use Rattle.std.specs.Prelude.{◌≡◌, ◌+◌, ◌<◌, IfSome};
+ghost use Rattle.std.specs.Prelude.{◌≡◌, ◌+◌, ◌<◌, IfSome, None};
+ghost use Rattle.lua_tree.specs.Tree.{BinOp as Operator};
 ghost use Rattle.lua_tree.specs.Grammar as grammar;
 ghost use Rattle.lua_tree.specs.Words.{op as operator};
 ghost use Rattle.lua_tree.specs.View.{binary_view};
@@ -58,7 +59,8 @@ pub(crate) fn priority_of(op: BinOp) -> Priority
 // binop ::= or | and | '<' | '>' | '<=' | '>=' | '~=' | '==' | '..' | '+' | '-' | '*' | '/' | '%'
 //     | '^'
 pub(crate) fn binary_operator(kind: Kind) -> Option<BinOp>
-    ensures { IfSome result (λ op. word_of_kind kind ≡ operator (binary_view op)) }
+    ensures some { IfSome result (λ op. word_of_kind kind ≡ operator (binary_view op)) }
+    ensures none { result ≡ None → (o : Operator) → word_of_kind kind ≡ operator o → ⊥ }
 {
     match kind {
         Kind::Or => Some(BinOp::Or),

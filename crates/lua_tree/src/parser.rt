@@ -1,8 +1,12 @@
-ghost use Rattle.std.specs.Prelude.{◌≡◌, ◌≤◌, Err, length, slice_get};
+ghost use Rattle.std.specs.Prelude.{◌≡◌, ◌≤◌, Err, List, length, slice_get};
 ghost use Rattle.lua_token.specs.Answer.{IsTokensAnswer};
 ghost use Rattle.lua_token.specs.declared.fault.LexFault.{LexFault as Lexical};
-ghost use Rattle.lua_tree.specs.Answer.{IsCut};
-ghost use Rattle.lua_tree.specs.Parsed.{fault_at, GivesFault, lexical_of, place_of, WasCut};
+ghost use Rattle.lua_tree.specs.Answer.{IsCut, OfWords, limits};
+ghost use Rattle.lua_tree.specs.Faults.{IsExact};
+ghost use Rattle.lua_tree.specs.Reading.{Answer};
+ghost use Rattle.lua_tree.specs.Tree.{Block as Spelled};
+ghost use Rattle.lua_tree.specs.Words.{Tok};
+ghost use Rattle.lua_tree.specs.Parsed.{ChunkAnswers, fault_at, GivesAnswer, GivesFault, IsParsed, lexical_of, place_of, WasCut, WordsOf};
 
 use crate::scope::Scope;
 use crate::source::Source;
@@ -27,6 +31,14 @@ pub fn parse(alloc: Global, source: &[u8]) -> Result<Chunk, ParseFault>
     // No other fault of tokens is given, and a tree or another fault only where there is none; such
     // a fault is at a token of the source or at its end.
     ensures cut { WasCut source.now result }
+
+    // What is answered is the one exact answer of the source's words: the chunk that they spell, or
+    // the first fault of the lowest number with its place.
+    ensures exact { IsParsed source.now result }
+
+    // And the exact answer of its words is given, unless memory ran out.
+    ensures only { (words : List Tok) (answer : Answer Spelled) → WordsOf source.now words →
+        IsExact limits words answer → GivesAnswer source.now result answer }
 {
     let tokens = match tokens(alloc, source) {
         Ok(tokens) => tokens,
@@ -47,6 +59,7 @@ pub fn parse(alloc: Global, source: &[u8]) -> Result<Chunk, ParseFault>
 // chunk ::= block, up to the end of the source
 fn chunk(source: &Source) -> Result<Chunk, Stop>
     requires cut { IsCut source.now }
+    ensures { OfWords source.now (ChunkAnswers result) }
 {
     let read = block(source, 0, Scope::chunk())?;
     if read.at < source.tokens.len() {

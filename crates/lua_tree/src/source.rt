@@ -1,6 +1,6 @@
 // The tokens of a source, as the rules of the grammar look at them.
-ghost use Rattle.std.specs.Prelude.{◌≡◌, ◌↔◌, ◌+◌, ◌≤◌, ◌<◌, IsTrue, IfSome, IfOk, IfErr, length, slice_get};
-ghost use Rattle.lua_tree.specs.Spelled.{IsMark, kind_at};
+ghost use Rattle.std.specs.Prelude.{◌≡◌, ◌↔◌, ◌+◌, ◌≤◌, ◌<◌, Some, IsTrue, IfSome, IfOk, IfErr, length, slice_get};
+ghost use Rattle.lua_tree.specs.Spelled.{IsMark, kind_at, number_of_kind};
 ghost use Rattle.lua_tree.specs.Answer.{IsCut, NamedAt, NoLocalAt, StringAt, StoppedAt, line_of};
 
 use crate::stop::{Fault, Stop};
@@ -112,7 +112,9 @@ impl Source<'_> {
     }
 
     // The number there.
-    pub(crate) fn number_at(&self, at: usize) -> Option<Num> {
+    pub(crate) fn number_at(&self, at: usize) -> Option<Num>
+        ensures { result ≡ number_of_kind (kind_at self.now.tokens.now at) }
+    {
         match self.token_at(at) {
             Some(token) => number_of(token.kind),
             None => None,
@@ -147,7 +149,9 @@ impl Source<'_> {
 }
 
 // The number that such a token is.
-fn number_of(kind: Kind) -> Option<Num> {
+fn number_of(kind: Kind) -> Option<Num>
+    ensures { result ≡ number_of_kind (Some kind) }
+{
     match kind {
         Kind::Number(value) => Some(value),
         _ => None,

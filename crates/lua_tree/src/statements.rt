@@ -1,7 +1,10 @@
 // Blocks and statements (Lua 5.1 manual §2.4).
-ghost use Rattle.std.specs.Prelude.{◌≡◌, ◌+◌, ◌<◌, ◌≤◌, Some, IfOk, IfSome, length, slice_get, IsTrue};
+ghost use Rattle.std.specs.Prelude.{◌≡◌, ◌+◌, ◌<◌, ◌≤◌, Some, IfOk, IsTrue, length, drop, true};
+ghost use Rattle.lua_tree.specs.Reading.{Reads, a_semi, got, semi, block as block_rule, last, program, stat as stat_rule};
 ghost use Rattle.lua_tree.specs.Spelled.{kind_at};
-ghost use Rattle.lua_tree.specs.Answer.{IsCut, Fits, Moves, Passes, Behind, line_of, declares};
+ghost use Rattle.lua_tree.specs.View.{block_view, stat_view};
+ghost use Rattle.lua_tree.specs.Begins.{ends_return_at, begins_last, begins_stat};
+ghost use Rattle.lua_tree.specs.Answer.{Answers, Fits, IsCut, Moves, OfWords, Passes, block_tall, counts, declares, limits, stat_tall};
 
 use crate::assignments::{call_or_assignment, local_variables};
 use crate::conditions::if_statement;
@@ -21,7 +24,9 @@ pub(crate) fn block(source: &Source, at: usize, scope: Scope) -> Result<Read<Blo
     requires cut { IsCut source.now }
     requires fits { Fits scope }
     requires within { at ≤ length source.now.tokens.now }
-    ensures moves { IfOk result (Passes source.now.tokens.now at scope.depth) }
+    ensures moves { IfOk result (Passes source.now.tokens.now at scope.depth block_tall) }
+    ensures answer { OfWords source.now
+        (Answers block_view (program (block_rule (counts scope))) at result) }
 {
     let mut stats = Vec::new(source.alloc);
     let mut height = 0;
@@ -34,7 +39,7 @@ pub(crate) fn block(source: &Source, at: usize, scope: Scope) -> Result<Read<Blo
         height = height.max(read.height);
         end = behind_semicolon(source, read.at);
     }
-    if !begins_last(source, end) {
+    if !begins_last_statement(source, end) {
         return Ok(Read {
             node: Block {
                 stats: List::from_vec(stats),
@@ -56,7 +61,8 @@ pub(crate) fn block(source: &Source, at: usize, scope: Scope) -> Result<Read<Blo
 
 // Whether a statement begins here.
 fn begins_statement(source: &Source, at: usize) -> bool
-    ensures { IsTrue result → at < length source.now.tokens.now }
+    ensures value { result ≡ begins_stat (kind_at source.now.tokens.now at) }
+    ensures within { IsTrue result → at < length source.now.tokens.now }
 {
     matches!(
         source.kind_at(at),
@@ -87,8 +93,9 @@ fn locals_of(stat: &Stat) -> u32
 }
 
 // Whether a statement begins here that ends its block.
-fn begins_last(source: &Source, at: usize) -> bool
-    ensures { IsTrue result → at < length source.now.tokens.now }
+fn begins_last_statement(source: &Source, at: usize) -> bool
+    ensures value { result ≡ begins_last (kind_at source.now.tokens.now at) }
+    ensures within { IsTrue result → at < length source.now.tokens.now }
 {
     matches!(source.kind_at(at), Some(Kind::Return | Kind::Break))
 }
@@ -98,6 +105,8 @@ fn behind_semicolon(source: &Source, at: usize) -> usize
     requires { at ≤ length source.now.tokens.now }
     ensures forth { at ≤ result }
     ensures within { result ≤ length source.now.tokens.now }
+    ensures read { OfWords source.now
+        (λ words. Reads limits a_semi (program semi) (drop at words) (got tt (drop result words))) }
 {
     if source.is(at, Kind::Semicolon) {
         at + 1
@@ -112,8 +121,11 @@ fn statement(source: &Source, at: usize, scope: Scope) -> Result<Read<Stat>, Sto
     requires cut { IsCut source.now }
     requires fits { Fits scope }
     requires some { at < length source.now.tokens.now }
-    ensures moves { IfOk result (Moves source.now.tokens.now at scope.depth) }
+    requires here { begins_stat (kind_at source.now.tokens.now at) ≡ true }
+    ensures moves { IfOk result (Moves source.now.tokens.now at scope.depth stat_tall) }
     ensures room { IfOk result (λ read. scope.locals + declares read.node ≤ 200) }
+    ensures answer { OfWords source.now
+        (Answers stat_view (program (stat_rule (counts scope))) at result) }
 {
     match source.kind_at(at) {
         Some(Kind::Do) => do_statement(source, at, scope),
@@ -133,8 +145,11 @@ fn do_statement(source: &Source, at: usize, scope: Scope) -> Result<Read<Stat>, 
     requires cut { IsCut source.now }
     requires fits { Fits scope }
     requires some { at < length source.now.tokens.now }
-    ensures moves { IfOk result (Moves source.now.tokens.now at scope.depth) }
+    requires here { kind_at source.now.tokens.now at ≡ Some Kind.Do }
+    ensures moves { IfOk result (Moves source.now.tokens.now at scope.depth stat_tall) }
     ensures room { IfOk result (λ read. scope.locals + declares read.node ≤ 200) }
+    ensures answer { OfWords source.now
+        (Answers stat_view (program (stat_rule (counts scope))) at result) }
 {
     may_nest(scope.depth + 1, at)?;
     let line = source.line_at(at);
@@ -156,8 +171,11 @@ fn local_statement(source: &Source, at: usize, scope: Scope) -> Result<Read<Stat
     requires cut { IsCut source.now }
     requires fits { Fits scope }
     requires some { at < length source.now.tokens.now }
-    ensures moves { IfOk result (Moves source.now.tokens.now at scope.depth) }
+    requires here { kind_at source.now.tokens.now at ≡ Some Kind.Local }
+    ensures moves { IfOk result (Moves source.now.tokens.now at scope.depth stat_tall) }
     ensures room { IfOk result (λ read. scope.locals + declares read.node ≤ 200) }
+    ensures answer { OfWords source.now
+        (Answers stat_view (program (stat_rule (counts scope))) at result) }
 {
     if source.is(at + 1, Kind::Function) {
         local_function(source, at, scope)
@@ -172,7 +190,10 @@ fn last_statement(source: &Source, at: usize, scope: Scope) -> Result<Read<Stat>
     requires cut { IsCut source.now }
     requires fits { Fits scope }
     requires some { at < length source.now.tokens.now }
-    ensures moves { IfOk result (Moves source.now.tokens.now at scope.depth) }
+    requires here { begins_last (kind_at source.now.tokens.now at) ≡ true }
+    ensures moves { IfOk result (Moves source.now.tokens.now at scope.depth stat_tall) }
+    ensures answer { OfWords source.now
+        (Answers stat_view (program (last (counts scope))) at result) }
 {
     if source.is(at, Kind::Break) {
         break_statement(source, at, scope)
@@ -187,7 +208,10 @@ fn return_statement(source: &Source, at: usize, scope: Scope) -> Result<Read<Sta
     requires cut { IsCut source.now }
     requires fits { Fits scope }
     requires some { at < length source.now.tokens.now }
-    ensures moves { IfOk result (Moves source.now.tokens.now at scope.depth) }
+    requires here { kind_at source.now.tokens.now at ≡ Some Kind.Return }
+    ensures moves { IfOk result (Moves source.now.tokens.now at scope.depth stat_tall) }
+    ensures answer { OfWords source.now
+        (Answers stat_view (program (last (counts scope))) at result) }
 {
     let line = source.line_at(at);
     if ends_return(source, at + 1) {
@@ -212,7 +236,9 @@ fn return_statement(source: &Source, at: usize, scope: Scope) -> Result<Read<Sta
 }
 
 // Whether a `return` before this place has no expressions.
-fn ends_return(source: &Source, at: usize) -> bool {
+fn ends_return(source: &Source, at: usize) -> bool
+    ensures { result ≡ ends_return_at (kind_at source.now.tokens.now at) }
+{
     matches!(
         source.kind_at(at),
         None | Some(Kind::End | Kind::Else | Kind::ElseIf | Kind::Until | Kind::Semicolon)
@@ -224,7 +250,10 @@ fn break_statement(source: &Source, at: usize, scope: Scope) -> Result<Read<Stat
     requires cut { IsCut source.now }
     requires fits { Fits scope }
     requires some { at < length source.now.tokens.now }
-    ensures moves { IfOk result (Moves source.now.tokens.now at scope.depth) }
+    requires here { kind_at source.now.tokens.now at ≡ Some Kind.Break }
+    ensures moves { IfOk result (Moves source.now.tokens.now at scope.depth stat_tall) }
+    ensures answer { OfWords source.now
+        (Answers stat_view (program (last (counts scope))) at result) }
 {
     if !scope.in_loop {
         return Err(Stop::At(Fault::BreakOutside, at));

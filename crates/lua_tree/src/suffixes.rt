@@ -1,9 +1,12 @@
 // Prefix expressions: names and parentheses, and the indices and calls behind them (Lua 5.1 manual
 // §2.3, §2.5.8).
-ghost use Rattle.std.specs.Prelude.{◌≡◌, ◌+◌, ◌<◌, ◌≤◌, Some, IfOk, IfSome, length, slice_get, IsTrue};
+ghost use Rattle.std.specs.Prelude.{◌≡◌, ◌+◌, ◌<◌, ◌≤◌, ◌∷◌, [], ℕ, Some, IfOk, IfErr, IsTrue, length, true, false};
+ghost use Rattle.lua_tree.specs.Attributes.{Counts};
+ghost use Rattle.lua_tree.specs.Reading.{Place, a_call, a_paren, args, held, prefix, program, suffixes as suffixes_rule, unfinished};
 ghost use Rattle.lua_tree.specs.Spelled.{kind_at};
-ghost use Rattle.lua_tree.specs.Answer.{IsCut, Fits, IsHeld, IsBase, Moves, Passes, Behind, line_of, declares, place_of};
-ghost use Rattle.lua_tree.specs.Reading.{a_call, a_paren, unfinished};
+ghost use Rattle.lua_tree.specs.View.{expr_view};
+ghost use Rattle.lua_tree.specs.Begins.{begins_suffix, opens_arguments};
+ghost use Rattle.lua_tree.specs.Answer.{Answers, Behind, Fits, IsBase, IsCut, IsHeld, MemberAt, Moves, NameAt, NoMemberAt, NoNameAt, OfWords, Parts, Passes, args_view, counts, expr_tall, exprs_tall, place_of};
 
 use crate::expressions::{expression, expressions, leaf};
 use crate::scope::Scope;
@@ -57,8 +60,9 @@ pub(crate) fn prefix_expression(
 ) -> Result<Read<Expr>, Stop>
     requires cut { IsCut source.now }
     requires fits { Fits scope }
-    ensures moves { IfOk result (Moves source.now.tokens.now at scope.depth) }
-    ensures tall { IfOk result (λ read. 1 ≤ read.height) }
+    ensures moves { IfOk result (Moves source.now.tokens.now at scope.depth expr_tall) }
+    ensures answer { OfWords source.now
+        (Answers expr_view (program (prefix (place_of position) (counts scope))) at result) }
 {
     let base = base_expression(source, at, scope, position)?;
     suffixes(source, base, scope, position)
@@ -74,8 +78,11 @@ fn base_expression(
 ) -> Result<Read<Expr>, Stop>
     requires cut { IsCut source.now }
     requires fits { Fits scope }
-    ensures moves { IfOk result (Moves source.now.tokens.now at scope.depth) }
-    ensures tall { IfOk result (λ read. 1 ≤ read.height) }
+    ensures moves { IfOk result (Moves source.now.tokens.now at scope.depth expr_tall) }
+    ensures answer { OfWords source.now
+        (Parts (λ e. program (suffixes_rule (place_of position) (counts scope) (expr_view e)))
+        (λ e whole. whole)
+        (program (prefix (place_of position) (counts scope))) at result) }
 {
     if source.is(at, Kind::OpenParen) {
         parenthesized(source, at, scope, position)
@@ -95,12 +102,14 @@ pub(crate) fn suffixes(
     requires cut { IsCut source.now }
     requires fits { Fits scope }
     requires behind { Behind source.now.tokens.now scope.depth first }
-    requires base { 1 ≤ first.height }
-    ensures moves { IfOk result (Passes source.now.tokens.now first.at scope.depth) }
-    ensures tall { IfOk result (λ read. 1 ≤ read.height) }
+    ensures moves { IfOk result (Passes source.now.tokens.now first.at scope.depth expr_tall) }
+    ensures answer { OfWords source.now
+        (Answers expr_view
+        (program (suffixes_rule (place_of position) (counts scope) (expr_view first.node)))
+        first.at result) }
 {
     let mut base = first;
-    'suffixes: while begins_suffix(source, base.at) {
+    'suffixes: while goes_on(source, base.at) {
         base = suffix(source, base, scope, position)?;
     }
     Ok(base)
@@ -110,8 +119,10 @@ pub(crate) fn suffixes(
 pub(crate) fn name(source: &Source, at: usize, scope: Scope) -> Result<Read<Expr>, Stop>
     requires cut { IsCut source.now }
     requires fits { Fits scope }
-    ensures moves { IfOk result (Moves source.now.tokens.now at scope.depth) }
-    ensures tall { IfOk result (λ read. 1 ≤ read.height) }
+    ensures moves { IfOk result (Moves source.now.tokens.now at scope.depth expr_tall) }
+    ensures ok { IfOk result (λ read. NameAt source.now at read.node) }
+    ensures next { IfOk result (λ read. read.at ≡ at + 1) }
+    ensures err { IfErr result (NoNameAt source.now at scope.depth) }
 {
     let name = source.name_at(at)?;
     may_nest(scope.depth + 1, at)?;
@@ -129,8 +140,12 @@ fn parenthesized(
     requires cut { IsCut source.now }
     requires fits { Fits scope }
     requires some { at < length source.now.tokens.now }
-    ensures moves { IfOk result (Moves source.now.tokens.now at scope.depth) }
-    ensures tall { IfOk result (λ read. 1 ≤ read.height) }
+    requires here { kind_at source.now.tokens.now at ≡ Some Kind.OpenParen }
+    ensures moves { IfOk result (Moves source.now.tokens.now at scope.depth expr_tall) }
+    ensures answer { OfWords source.now
+        (Parts (λ e. program (suffixes_rule (place_of position) (counts scope) (expr_view e)))
+        (λ e whole. whole)
+        (program (prefix (place_of position) (counts scope))) at result) }
 {
     let outer = scope.held(position.holds_parentheses());
     may_nest(outer.depth + 2, at)?;
@@ -150,8 +165,9 @@ fn parenthesized(
 }
 
 // Whether an index or a call goes on here.
-fn begins_suffix(source: &Source, at: usize) -> bool
-    ensures { IsTrue result → at < length source.now.tokens.now }
+fn goes_on(source: &Source, at: usize) -> bool
+    ensures value { result ≡ begins_suffix (kind_at source.now.tokens.now at) }
+    ensures within { IsTrue result → at < length source.now.tokens.now }
 {
     matches!(
         source.kind_at(at),
@@ -177,10 +193,14 @@ fn suffix(
     requires cut { IsCut source.now }
     requires fits { Fits scope }
     requires behind { Behind source.now.tokens.now scope.depth base }
-    requires base { 1 ≤ base.height }
     requires some { base.at < length source.now.tokens.now }
-    ensures moves { IfOk result (Moves source.now.tokens.now base.at scope.depth) }
-    ensures tall { IfOk result (λ read. 1 ≤ read.height) }
+    requires here { begins_suffix (kind_at source.now.tokens.now base.at) ≡ true }
+    ensures moves { IfOk result (Moves source.now.tokens.now base.at scope.depth expr_tall) }
+    ensures answer { OfWords source.now
+        (Parts (λ e. program (suffixes_rule (place_of position) (counts scope) (expr_view e)))
+        (λ e whole. whole)
+        (program (suffixes_rule (place_of position) (counts scope) (expr_view base.node)))
+        base.at result) }
 {
     match source.kind_at(base.at) {
         Some(Kind::OpenBracket) => index(source, base, scope),
@@ -196,10 +216,12 @@ fn index(source: &Source, base: Read<Expr>, scope: Scope) -> Result<Read<Expr>, 
     requires cut { IsCut source.now }
     requires fits { Fits scope }
     requires behind { Behind source.now.tokens.now scope.depth base }
-    requires base { 1 ≤ base.height }
     requires some { base.at < length source.now.tokens.now }
-    ensures moves { IfOk result (Moves source.now.tokens.now base.at scope.depth) }
-    ensures tall { IfOk result (λ read. 1 ≤ read.height) }
+    requires here { kind_at source.now.tokens.now base.at ≡ Some Kind.OpenBracket }
+    ensures moves { IfOk result (Moves source.now.tokens.now base.at scope.depth expr_tall) }
+    ensures answer { (k : Place) → OfWords source.now
+        (Parts (λ e. program (suffixes_rule k (counts scope) (expr_view e))) (λ e whole. whole)
+        (program (suffixes_rule k (counts scope) (expr_view base.node))) base.at result) }
 {
     may_nest(scope.depth + 1 + base.height, base.at)?;
     let line = source.line_at(base.at);
@@ -223,10 +245,11 @@ pub(crate) fn member(source: &Source, base: Read<Expr>, scope: Scope) -> Result<
     requires cut { IsCut source.now }
     requires fits { Fits scope }
     requires behind { Behind source.now.tokens.now scope.depth base }
-    requires base { 1 ≤ base.height }
     requires some { base.at < length source.now.tokens.now }
-    ensures moves { IfOk result (Moves source.now.tokens.now base.at scope.depth) }
-    ensures tall { IfOk result (λ read. 1 ≤ read.height) }
+    ensures moves { IfOk result (Moves source.now.tokens.now base.at scope.depth expr_tall) }
+    ensures ok { IfOk result (λ read. MemberAt source.now base read.node) }
+    ensures next { IfOk result (λ read. read.at ≡ base.at + 2) }
+    ensures err { IfErr result (NoMemberAt source.now base scope.depth) }
 {
     may_nest(scope.depth + 1 + base.height, base.at)?;
     let line = source.line_at(base.at);
@@ -255,8 +278,12 @@ fn method_call(source: &Source, object: Read<Expr>, scope: Scope) -> Result<Read
     requires fits { IsHeld scope }
     requires behind { IsBase source.now.tokens.now object }
     requires some { object.at < length source.now.tokens.now }
-    ensures moves { IfOk result (Moves source.now.tokens.now object.at scope.depth) }
-    ensures tall { IfOk result (λ read. 1 ≤ read.height) }
+    requires here { kind_at source.now.tokens.now object.at ≡ Some Kind.Colon }
+    ensures moves { IfOk result (Moves source.now.tokens.now object.at scope.depth expr_tall) }
+    ensures answer { (k : Place) (c : Counts) → counts scope ≡ held (unfinished k a_call) c →
+        OfWords source.now
+        (Parts (λ e. program (suffixes_rule k c (expr_view e))) (λ e whole. whole)
+        (program (suffixes_rule k c (expr_view object.node))) object.at result) }
 {
     may_nest(scope.depth + 1 + object.height, object.at)?;
     let name = source.name_at(object.at + 1)?;
@@ -281,8 +308,12 @@ fn call(source: &Source, callee: Read<Expr>, scope: Scope) -> Result<Read<Expr>,
     requires fits { IsHeld scope }
     requires behind { IsBase source.now.tokens.now callee }
     requires some { callee.at < length source.now.tokens.now }
-    ensures moves { IfOk result (Moves source.now.tokens.now callee.at scope.depth) }
-    ensures tall { IfOk result (λ read. 1 ≤ read.height) }
+    requires here { opens_arguments (kind_at source.now.tokens.now callee.at) ≡ true }
+    ensures moves { IfOk result (Moves source.now.tokens.now callee.at scope.depth expr_tall) }
+    ensures answer { (k : Place) (c : Counts) → counts scope ≡ held (unfinished k a_call) c →
+        OfWords source.now
+        (Parts (λ e. program (suffixes_rule k c (expr_view e))) (λ e whole. whole)
+        (program (suffixes_rule k c (expr_view callee.node))) callee.at result) }
 {
     let opening = callee.at;
     may_nest(scope.depth + 1 + callee.height, opening)?;
@@ -306,7 +337,9 @@ fn arguments(source: &Source, at: usize, scope: Scope) -> Result<Read<List<Expr>
     requires fits { Fits scope }
     requires deep { scope.depth + 1 ≤ 200 }
     requires behind { 0 < at }
-    ensures moves { IfOk result (Moves source.now.tokens.now at scope.depth) }
+    ensures moves { IfOk result (Moves source.now.tokens.now at scope.depth exprs_tall) }
+    ensures answer { (n : ℕ) → n ≤ 200 → OfWords source.now
+        (Answers (args_view source.now at) (program (args n (counts scope))) at result) }
 {
     match source.kind_at(at) {
         Some(Kind::OpenParen) => listed(source, at, scope),
@@ -323,7 +356,10 @@ fn listed(source: &Source, at: usize, scope: Scope) -> Result<Read<List<Expr>>, 
     requires fits { Fits scope }
     requires behind { 0 < at }
     requires some { at < length source.now.tokens.now }
-    ensures moves { IfOk result (Moves source.now.tokens.now at scope.depth) }
+    requires here { kind_at source.now.tokens.now at ≡ Some Kind.OpenParen }
+    ensures moves { IfOk result (Moves source.now.tokens.now at scope.depth exprs_tall) }
+    ensures answer { (n : ℕ) → n ≤ 200 → OfWords source.now
+        (Answers (args_view source.now at) (program (args n (counts scope))) at result) }
 {
     if source.line_at(at - 1) < source.line_at(at) {
         return Err(Stop::At(Fault::AmbiguousCall, at));
@@ -350,7 +386,10 @@ fn only_table(source: &Source, at: usize, scope: Scope) -> Result<Read<List<Expr
     requires fits { Fits scope }
     requires deep { scope.depth + 1 ≤ 200 }
     requires some { at < length source.now.tokens.now }
-    ensures moves { IfOk result (Moves source.now.tokens.now at scope.depth) }
+    requires here { kind_at source.now.tokens.now at ≡ Some Kind.OpenBrace }
+    ensures moves { IfOk result (Moves source.now.tokens.now at scope.depth exprs_tall) }
+    ensures answer { (n : ℕ) → n ≤ 200 → OfWords source.now
+        (Answers (args_view source.now at) (program (args n (counts scope))) at result) }
 {
     let fields = fields(source, at + 1, scope.deeper())?;
     let node = Expr {
@@ -368,7 +407,9 @@ fn only_table(source: &Source, at: usize, scope: Scope) -> Result<Read<List<Expr
 fn only_string(source: &Source, at: usize) -> Result<Read<List<Expr>>, Stop>
     requires cut { IsCut source.now }
     requires here { kind_at source.now.tokens.now at ≡ Some Kind.Str }
-    ensures moves { IfOk result (Moves source.now.tokens.now at 199) }
+    ensures moves { IfOk result (Moves source.now.tokens.now at 199 exprs_tall) }
+    ensures answer { (n : ℕ) → n ≤ 200 → (c : Counts) → OfWords source.now
+        (Answers (args_view source.now at) (program (args n c)) at result) }
 {
     let string = leaf(source, at, ExprKind::Str(source.string_at(at)?));
     Ok(Read {
@@ -379,7 +420,10 @@ fn only_string(source: &Source, at: usize) -> Result<Read<List<Expr>>, Stop>
 }
 
 // The list of one expression.
-fn only(source: &Source, item: Expr) -> Result<List<Expr>, Stop> {
+fn only(source: &Source, item: Expr) -> Result<List<Expr>, Stop>
+    ensures ok { IfOk result (λ items. items ≡ item ∷ []) }
+    ensures err { IfErr result (λ stop. stop ≡ Stop.Memory) }
+{
     let mut items = Vec::new(source.alloc);
     items.push(item)?;
     Ok(List::from_vec(items))

@@ -1,12 +1,16 @@
 // Table constructors (Lua 5.1 manual §2.5.7).
-ghost use Rattle.std.specs.Prelude.{◌≡◌, ◌+◌, ◌<◌, ◌≤◌, Some, IfOk, IfSome, length, slice_get, IsTrue};
+ghost use Rattle.std.specs.Prelude.{◌≡◌, ◌+◌, ◌<◌, ◌≤◌, Some, IfOk, length};
+ghost use Rattle.lua_tree.specs.Attributes.{Counts};
+ghost use Rattle.lua_tree.specs.Reading.{fields as fields_rule, first as first_rule, more_fields, program};
 ghost use Rattle.lua_tree.specs.Spelled.{kind_at};
-ghost use Rattle.lua_tree.specs.Answer.{IsCut, Fits, Moves, Passes, Behind, line_of, declares};
+ghost use Rattle.lua_tree.specs.View.{expr_view, field_view, fields_view};
+ghost use Rattle.lua_tree.specs.Begins.{FieldEnd};
+ghost use Rattle.lua_tree.specs.Answer.{Answers, Fits, IsCut, Moves, OfWords, Parts, counts, expr_tall, field_tall, fields_tall};
 
 use crate::expressions::{expression, operations};
 use crate::scope::Scope;
 use crate::source::{Read, Source, may_nest};
-use crate::stop::{Fault, Stop};
+use crate::stop::Stop;
 use crate::suffixes::{Position, name, suffixes};
 use crate::{Expr, ExprKind, Field};
 use love_base::List;
@@ -18,7 +22,10 @@ pub(crate) fn table(source: &Source, at: usize, scope: Scope) -> Result<Read<Exp
     requires cut { IsCut source.now }
     requires fits { Fits scope }
     requires some { at < length source.now.tokens.now }
-    ensures moves { IfOk result (Moves source.now.tokens.now at scope.depth) }
+    requires here { kind_at source.now.tokens.now at ≡ Some Kind.OpenBrace }
+    ensures moves { IfOk result (Moves source.now.tokens.now at scope.depth expr_tall) }
+    ensures answer { OfWords source.now
+        (Answers expr_view (program (first_rule (counts scope))) at result) }
 {
     may_nest(scope.depth + 1, at)?;
     let fields = fields(source, at + 1, scope.deeper())?;
@@ -38,7 +45,9 @@ pub(crate) fn fields(source: &Source, at: usize, scope: Scope) -> Result<Read<Li
     requires cut { IsCut source.now }
     requires fits { Fits scope }
     requires within { at ≤ length source.now.tokens.now }
-    ensures moves { IfOk result (Moves source.now.tokens.now at scope.depth) }
+    ensures moves { IfOk result (Moves source.now.tokens.now at scope.depth fields_tall) }
+    ensures answer { OfWords source.now
+        (Answers fields_view (program (fields_rule (counts scope))) at result) }
 {
     let mut fields = Vec::new(source.alloc);
     let mut height = 0;
@@ -60,12 +69,13 @@ pub(crate) fn fields(source: &Source, at: usize, scope: Scope) -> Result<Read<Li
 fn behind_field(source: &Source, at: usize) -> Result<usize, Stop>
     ensures forth { IfOk result (λ next. at ≤ next) }
     ensures within { IfOk result (λ next. next ≤ length source.now.tokens.now) }
+    ensures answer { (c : Counts) → OfWords source.now (FieldEnd source.now c at result) }
 {
-    match source.kind_at(at) {
-        Some(Kind::Comma | Kind::Semicolon) => Ok(at + 1),
-        Some(Kind::CloseBrace) => Ok(at),
-        _ => Err(Stop::At(Fault::Unexpected, at)),
+    if source.is(at, Kind::Comma) || source.is(at, Kind::Semicolon) {
+        return Ok(at + 1);
     }
+    source.expect(at, Kind::CloseBrace)?;
+    Ok(at)
 }
 
 // field ::= '[' exp ']' '=' exp | Name '=' exp | exp
@@ -73,7 +83,11 @@ fn behind_field(source: &Source, at: usize) -> Result<usize, Stop>
 fn field(source: &Source, at: usize, scope: Scope) -> Result<Read<Field>, Stop>
     requires cut { IsCut source.now }
     requires fits { Fits scope }
-    ensures moves { IfOk result (Moves source.now.tokens.now at scope.depth) }
+    requires here { (kind_at source.now.tokens.now at ≡ Some Kind.CloseBrace) → ⊥ }
+    ensures moves { IfOk result (Moves source.now.tokens.now at scope.depth field_tall) }
+    ensures answer { OfWords source.now
+        (Parts (λ field. program (more_fields (counts scope))) (λ field rest. field_view field rest)
+        (program (fields_rule (counts scope))) at result) }
 {
     match source.kind_at(at) {
         Some(Kind::OpenBracket) => keyed_field(source, at, scope),
@@ -88,7 +102,11 @@ fn keyed_field(source: &Source, at: usize, scope: Scope) -> Result<Read<Field>, 
     requires cut { IsCut source.now }
     requires fits { Fits scope }
     requires some { at < length source.now.tokens.now }
-    ensures moves { IfOk result (Moves source.now.tokens.now at scope.depth) }
+    requires here { kind_at source.now.tokens.now at ≡ Some Kind.OpenBracket }
+    ensures moves { IfOk result (Moves source.now.tokens.now at scope.depth field_tall) }
+    ensures answer { OfWords source.now
+        (Parts (λ field. program (more_fields (counts scope))) (λ field rest. field_view field rest)
+        (program (fields_rule (counts scope))) at result) }
 {
     may_nest(scope.depth + 1, at)?;
     let key = expression(source, at + 1, scope, 0)?;
@@ -108,7 +126,11 @@ fn name_field(source: &Source, at: usize, scope: Scope) -> Result<Read<Field>, S
     requires cut { IsCut source.now }
     requires fits { Fits scope }
     requires some { at < length source.now.tokens.now }
-    ensures moves { IfOk result (Moves source.now.tokens.now at scope.depth) }
+    requires here { kind_at source.now.tokens.now at ≡ Some Kind.Name }
+    ensures moves { IfOk result (Moves source.now.tokens.now at scope.depth field_tall) }
+    ensures answer { OfWords source.now
+        (Parts (λ field. program (more_fields (counts scope))) (λ field rest. field_view field rest)
+        (program (fields_rule (counts scope))) at result) }
 {
     if source.is(at + 1, Kind::Assign) {
         return named_field(source, at, scope);
@@ -125,7 +147,12 @@ fn named_field(source: &Source, at: usize, scope: Scope) -> Result<Read<Field>, 
     requires fits { Fits scope }
     requires some { at < length source.now.tokens.now }
     requires next { at + 1 < length source.now.tokens.now }
-    ensures moves { IfOk result (Moves source.now.tokens.now at scope.depth) }
+    requires assign { kind_at source.now.tokens.now (at + 1) ≡ Some Kind.Assign }
+    requires here { kind_at source.now.tokens.now at ≡ Some Kind.Name }
+    ensures moves { IfOk result (Moves source.now.tokens.now at scope.depth field_tall) }
+    ensures answer { OfWords source.now
+        (Parts (λ field. program (more_fields (counts scope))) (λ field rest. field_view field rest)
+        (program (fields_rule (counts scope))) at result) }
 {
     may_nest(scope.depth + 1, at)?;
     let key = Expr {
@@ -142,6 +169,7 @@ fn named_field(source: &Source, at: usize, scope: Scope) -> Result<Read<Field>, 
 
 // A field of a value alone.
 fn item(value: Read<Expr>) -> Read<Field>
+    ensures node { result.node ≡ Field.Item value.node }
     ensures at { result.at ≡ value.at }
     ensures height { result.height ≡ value.height }
 {

@@ -1,5 +1,11 @@
-use Rattle.std.proofs.Common.{◌≡◌, ◌<◌, ◌≤◌, ◌+◌, ◌-◌, ◌*◌, length}
-use Rattle.lua_tree.specs.Answer.{Behind, Fits}
+use Rattle.std.proofs.Common.{◌≡◌, ◌<◌, ◌≤◌, ◌+◌, ◌-◌, ◌*◌, ◌∷◌, length, List, drop}
+use Rattle.lua_tree.specs.Tree.{Expr, Exprs, Fields, Block, Arms}
+use Rattle.lua_tree.specs.Words.{Tok}
+use Rattle.lua_tree.specs.Reading.{Answer, Reads, program, an_expr, some_exprs, some_targets, some_fields, some_arms, a_block, more, suffixes, exprs, more_exprs, fields, block, arms, more_arms, more_targets}
+use Rattle.lua_tree.specs.Spelled.{Spelled}
+use Rattle.lua_tree.specs.View.{expr_view}
+use Rattle.lua_tree.specs.Answer.{Behind, Fits, limits, counts, place_of, as_part, exprs_tall, fields_tall}
+use Rattle.lua_tree.proofs.Lists.{exprs_onto, fields_onto, stats_onto, arms_onto, stats_tall, arms_tall}
 use Rattle.lua_tree.proofs.+grammar.Given as goal
 
 abbrev pub decreases-suffixes::arguments : goal.decreases-suffixes::arguments
@@ -147,43 +153,91 @@ abbrev pub decreases-loops::while_statement : goal.decreases-loops::while_statem
 decreases-loops::while_statement l = 16 * (length l.source.now.tokens.now - l.at) + 7
 
 abbrev pub invariant-expressions::expressions-items : goal.invariant-expressions::expressions-items
-invariant-expressions::expressions-items l = record { forth : l.fn.at < l.end; within : l.end ≤ length l.source.tokens.now; low : l.scope.depth + l.height ≤ 200 }
+invariant-expressions::expressions-items l = record {
+  forth : l.fn.at < l.end;
+  within : l.end ≤ length l.source.tokens.now;
+  high : l.height ≡ exprs_tall l.items.items;
+  low : l.scope.depth + l.height ≤ 200;
+  so_far : (words : List Tok) → Spelled l.source.bytes.now 1 l.source.tokens.now words → (r : Answer Exprs)
+      → Reads limits some_exprs (program (more_exprs (counts l.scope))) (drop l.end words) r → Reads limits some_exprs (program (exprs (counts l.scope))) (drop l.fn.at words) (as_part (exprs_onto l.items.items) r);
+}
 
 abbrev pub decreases-expressions::expressions-items : goal.decreases-expressions::expressions-items
 decreases-expressions::expressions-items l = length l.source.tokens.now - l.end
 
 abbrev pub invariant-expressions::operations-operators : goal.invariant-expressions::operations-operators
-invariant-expressions::operations-operators l = record { behind : Behind l.source.tokens.now l.scope.depth l.left; forth : l.fn.first.at ≤ l.left.at }
+invariant-expressions::operations-operators l = record {
+  behind : Behind l.source.tokens.now l.scope.depth l.left;
+  forth : l.fn.first.at ≤ l.left.at;
+  so_far : (words : List Tok) → Spelled l.source.bytes.now 1 l.source.tokens.now words → (r : Answer Expr)
+      → Reads limits an_expr (program (more l.level (counts l.scope) (expr_view l.left.node))) (drop l.left.at words) r → Reads limits an_expr (program (more l.level (counts l.scope) (expr_view l.fn.first.node))) (drop l.fn.first.at words) r;
+}
 
 abbrev pub decreases-expressions::operations-operators : goal.decreases-expressions::operations-operators
 decreases-expressions::operations-operators l = length l.source.tokens.now - l.left.at
 
 abbrev pub invariant-suffixes::suffixes-suffixes : goal.invariant-suffixes::suffixes-suffixes
-invariant-suffixes::suffixes-suffixes l = record { tall : 1 ≤ l.base.height; behind : Behind l.source.tokens.now l.scope.depth l.base; forth : l.fn.first.at ≤ l.base.at }
+invariant-suffixes::suffixes-suffixes l = record {
+  behind : Behind l.source.tokens.now l.scope.depth l.base;
+  forth : l.fn.first.at ≤ l.base.at;
+  so_far : (words : List Tok) → Spelled l.source.bytes.now 1 l.source.tokens.now words → (r : Answer Expr)
+      → Reads limits an_expr (program (suffixes (place_of l.position) (counts l.scope) (expr_view l.base.node))) (drop l.base.at words) r → Reads limits an_expr (program (suffixes (place_of l.position) (counts l.scope) (expr_view l.fn.first.node))) (drop l.fn.first.at words) r;
+}
 
 abbrev pub decreases-suffixes::suffixes-suffixes : goal.decreases-suffixes::suffixes-suffixes
 decreases-suffixes::suffixes-suffixes l = length l.source.tokens.now - l.base.at
 
 abbrev pub invariant-tables::fields-fields : goal.invariant-tables::fields-fields
-invariant-tables::fields-fields l = record { forth : l.fn.at ≤ l.end; within : l.end ≤ length l.source.tokens.now; low : l.scope.depth + l.height ≤ 200 }
+invariant-tables::fields-fields l = record {
+  forth : l.fn.at ≤ l.end;
+  within : l.end ≤ length l.source.tokens.now;
+  high : l.height ≡ fields_tall l.fields.items;
+  low : l.scope.depth + l.height ≤ 200;
+  so_far : (words : List Tok) → Spelled l.source.bytes.now 1 l.source.tokens.now words → (r : Answer Fields)
+      → Reads limits some_fields (program (fields (counts l.scope))) (drop l.end words) r → Reads limits some_fields (program (fields (counts l.scope))) (drop l.fn.at words) (as_part (fields_onto l.fields.items) r);
+}
 
 abbrev pub decreases-tables::fields-fields : goal.decreases-tables::fields-fields
 decreases-tables::fields-fields l = length l.source.tokens.now - l.end
 
 abbrev pub invariant-statements::block-statements : goal.invariant-statements::block-statements
-invariant-statements::block-statements l = record { forth : l.fn.at ≤ l.end; within : l.end ≤ length l.source.tokens.now; low : l.fn.scope.depth + l.height ≤ 200; fits : Fits l.inner; depth : l.inner.depth ≡ l.fn.scope.depth }
+invariant-statements::block-statements l = record {
+  forth : l.fn.at ≤ l.end;
+  within : l.end ≤ length l.source.tokens.now;
+  high : l.height ≡ stats_tall l.stats.items;
+  low : l.fn.scope.depth + l.height ≤ 200;
+  fits : Fits l.inner;
+  depth : l.inner.depth ≡ l.fn.scope.depth;
+  so_far : (words : List Tok) → Spelled l.source.bytes.now 1 l.source.tokens.now words → (r : Answer Block)
+      → Reads limits a_block (program (block (counts l.inner))) (drop l.end words) r → Reads limits a_block (program (block (counts l.fn.scope))) (drop l.fn.at words) (as_part (stats_onto l.stats.items) r);
+}
 
 abbrev pub decreases-statements::block-statements : goal.decreases-statements::block-statements
 decreases-statements::block-statements l = length l.source.tokens.now - l.end
 
 abbrev pub invariant-conditions::if_statement-arms : goal.invariant-conditions::if_statement-arms
-invariant-conditions::if_statement-arms l = record { forth : l.fn.at < l.end; within : l.end ≤ length l.source.tokens.now; low : l.scope.depth + l.height ≤ 200 }
+invariant-conditions::if_statement-arms l = record {
+  forth : l.fn.at < l.end;
+  within : l.end ≤ length l.source.tokens.now;
+  high : l.height ≡ arms_tall l.arms.items;
+  low : l.scope.depth + l.height ≤ 200;
+  so_far : (words : List Tok) → Spelled l.source.bytes.now 1 l.source.tokens.now words → (r : Answer Arms)
+      → Reads limits some_arms (program (more_arms (counts l.scope))) (drop l.end words) r → Reads limits some_arms (program (arms (counts l.scope))) (drop (l.fn.at + 1) words) (as_part (arms_onto l.arms.items) r);
+}
 
 abbrev pub decreases-conditions::if_statement-arms : goal.decreases-conditions::if_statement-arms
 decreases-conditions::if_statement-arms l = length l.source.tokens.now - l.end
 
 abbrev pub invariant-assignments::assignment-targets : goal.invariant-assignments::assignment-targets
-invariant-assignments::assignment-targets l = record { forth : l.fn.first.at ≤ l.end; within : l.end ≤ length l.source.tokens.now; low : l.scope.depth + l.height ≤ 200 }
+invariant-assignments::assignment-targets l = record {
+  forth : l.fn.first.at ≤ l.end;
+  within : l.end ≤ length l.source.tokens.now;
+  high : l.height ≡ exprs_tall l.targets.items;
+  front : l.targets.items ≡ l.fn.first.node ∷ drop 1 l.targets.items;
+  low : l.scope.depth + l.height ≤ 200;
+  so_far : (words : List Tok) → Spelled l.source.bytes.now 1 l.source.tokens.now words → (r : Answer Exprs)
+      → Reads limits some_targets (program (more_targets (counts l.scope))) (drop l.end words) r → Reads limits some_targets (program (more_targets (counts l.scope))) (drop l.fn.first.at words) (as_part (exprs_onto (drop 1 l.targets.items)) r);
+}
 
 abbrev pub decreases-assignments::assignment-targets : goal.decreases-assignments::assignment-targets
 decreases-assignments::assignment-targets l = length l.source.tokens.now - l.end

@@ -69,11 +69,16 @@ const ENDED: [&str; 61] = [
 #[test]
 fn a_source_that_ends_early_is_unexpected_there(rt: HostRuntime) -> Result<(), Fail> {
     for source in ENDED {
+        let place = source.len() as u32;
         match parse(rt.alloc(), source.as_bytes()) {
-            Err(ParseFault::Unexpected { line: 1, place }) => {
-                assert_eq!(rt; place as usize, source.len(), "{source}");
+            Ok(_) => panic!(rt; "{source}"),
+            Err(fault) => {
+                assert_eq!(rt;
+                    fault,
+                    ParseFault::Unexpected { line: 1, place },
+                    "{source}"
+                );
             }
-            _ => panic!(rt; "{source}"),
         }
     }
     Ok(())

@@ -82,8 +82,7 @@ fn put_stat(shown: &mut Shown, stat: &Stat) -> Result<(), AllocError> {
         }
         StatKind::If(arms, last) => {
             open(shown, "if", line)?;
-            put_arms(shown, arms.as_slice())?;
-            put_else(shown, last)?;
+            put_arms(shown, arms.as_slice(), last)?;
         }
         StatKind::NumFor(name, first, limit, step, block) => {
             open(shown, "for", line)?;
@@ -122,24 +121,17 @@ fn put_stat(shown: &mut Shown, stat: &Stat) -> Result<(), AllocError> {
 }
 
 #[cycle(shown)]
-fn put_arms(shown: &mut Shown, arms: &[Arm]) -> Result<(), AllocError> {
+fn put_arms(shown: &mut Shown, arms: &[Arm], last: &Option<Block>) -> Result<(), AllocError> {
     for arm in arms {
         put_expr(shown, &arm.test)?;
         put(shown, " then")?;
         put_block(shown, &arm.block)?;
     }
-    Ok(())
-}
-
-#[cycle(shown)]
-fn put_else(shown: &mut Shown, last: &Option<Block>) -> Result<(), AllocError> {
-    match last {
-        None => Ok(()),
-        Some(block) => {
-            put(shown, " else")?;
-            put_block(shown, block)
-        }
+    if let Some(block) = last {
+        put(shown, " else")?;
+        put_block(shown, block)?;
     }
+    Ok(())
 }
 
 #[cycle(shown)]
