@@ -19,4 +19,7 @@ pub mod Blocks
 pub mod Serving
 pub mod Following
 pub mod Talking
+pub mod Keeping
+pub mod Stepping
+pub mod Trees
 pub mod of_rows
