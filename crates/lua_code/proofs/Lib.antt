@@ -22,4 +22,5 @@ pub mod Talking
 pub mod Keeping
 pub mod Stepping
 pub mod Trees
+pub mod Protos
 pub mod of_rows

@@ -17,7 +17,7 @@ use Rattle.lua_meaning.specs.Running.{is_counting}
 use Rattle.lua_code.specs.Instr as i
 use Rattle.lua_code.specs.Instr.{Site, Operand, Wants, Instr, Proto, code_of}
 use Rattle.lua_code.specs.State.{Registers, State, Made, Running, Frame, waits, Active, lua, library, Config, Pending, Step, on, stop, asks}
-use Rattle.lua_code.specs.Frames.{raised, finish}
+use Rattle.lua_code.specs.Frames.{raised, finish, calling}
 use Rattle.lua_code.specs.Doing as doing
 use Rattle.lua_code.specs.Doing.{Doing, Use, unary_doing, binary_doing, field_doing}
 use Rattle.lua_code.specs.Natives.{Program, resume}
@@ -64,9 +64,9 @@ module _ (run : Running) (frames : List Frame) (r : Registers) (st : State) (her
 
   -- the caller waits
   abbrev caller : Wants → Site → List Frame
-  caller wants s = waits (next run) wants (act.at_line run frames r st s) ∷ frames
+  caller wants s = waits (next run) wants (act.at_line run s) ∷ frames
 
-  calls : (f : Value) (args : List Value) (wants : Wants) (s : Site) (base cell_base : ℕ) → run.pc + 1 < len → Kept (act.calling f args (caller wants s) base cell_base r st)
+  calls : (f : Value) (args : List Value) (wants : Wants) (s : Site) (base cell_base : ℕ) → run.pc + 1 < len → Kept (calling f args (caller wants s) base cell_base r st)
   calls f args wants s base cell_base b =
       let waiting : AreFrames (caller wants s) = (record { sound = here.sound; inside = b }, fs) in
       calls_keeps w _ (caller wants s) base cell_base r waiting f args st made
@@ -126,6 +126,9 @@ module _ (run : Running) (frames : List Frame) (r : Registers) (st : State) (her
   each at count v b = either w (is_nil v) _ _ (onward r st b same)
       (ticking_keeps w st.ticks st _ (λ u e. spends _ _ u e (omega (arith, b))))
 
+  abbrev slot_at : ℕ → Value
+  slot_at = act.slot_at run frames r st
+
   acts : (x : Instr) → GoesOn len run.pc x → Kept (act.act_on run frames r st x)
   acts (i.load to o) g = onward _ st g same
   acts (i.get_cell to c) g = onward _ st g same
@@ -146,12 +149,12 @@ module _ (run : Running) (frames : List Frame) (r : Registers) (st : State) (her
   acts (i.spread from count tailed) g = onward _ st g same
   acts i.tick g = ticking_keeps w st.ticks st _ (λ u e. spends _ r u e g)
   acts (i.skip count) g = goes _ r st (omega arith) g same
-  acts (i.skip_if from count) g = jumps (is_true (act.slot_at run frames r st from)) _ (omega arith) g (omega (arith, g))
-  acts (i.skip_unless from count) g = either w (is_true (act.slot_at run frames r st from)) _ _ (onward r st (omega (arith, g)) same) (goes _ r st (omega arith) g same)
-  acts (i.back_if from count) g = returns (is_true (act.slot_at run frames r st from)) _ (omega (arith, g)) g
-  acts (i.back_unless from count) g = either w (is_true (act.slot_at run frames r st from)) _ _ (onward r st g same) (ticking_keeps w st.ticks st _ (λ u e. spends _ r u e (omega (arith, g))))
-  acts (i.for_begin s at count) g = begins s at count _ _ _ g
-  acts (i.for_next at count) g = counts_on at count _ _ _ g
+  acts (i.skip_if from count) g = jumps (is_true (slot_at from)) _ (omega arith) g (omega (arith, g))
+  acts (i.skip_unless from count) g = either w (is_true (slot_at from)) _ _ (onward r st (omega (arith, g)) same) (goes _ r st (omega arith) g same)
+  acts (i.back_if from count) g = returns (is_true (slot_at from)) _ (omega (arith, g)) g
+  acts (i.back_unless from count) g = either w (is_true (slot_at from)) _ _ (onward r st g same) (ticking_keeps w st.ticks st _ (λ u e. spends _ r u e (omega (arith, g))))
+  acts (i.for_begin s at count) g = begins s at count (as_number (slot_at at)) (as_number (slot_at (at + 1))) (as_number (slot_at (at + 2))) g
+  acts (i.for_next at count) g = counts_on at count (slot_at at) (slot_at (at + 1)) (slot_at (at + 2)) g
   acts (i.each_next at count) g = each at count _ g
   acts (i.leave from count tailed) g = less _ w _ (omega (arith, here.inside, short)) (finish_keeps frames _ r st.ticks st fs same)
 

@@ -1,6 +1,6 @@
 -- The code of valid prototypes is sound.
 use Rattle.std.proofs.Common.{ℕ, zero, suc, ◌+◌, ◌-◌, ◌≡◌, ◌≤◌, ◌<◌, refl, sym, ap, ◌∙◌, subst, List, [], ◌∷◌, ◌++◌, length, Option, Some, None, slice_get, arith}
-use Rattle.std.specs.Prelude.{◌^◌}
+use Rattle.std.specs.Prelude.{◌^◌, unwrap_or}
 use Rattle.std.specs.List.{AllByRecursion}
 use Rattle.std.proofs.lemmas.Option.{none-some, same_Some}
 use Rattle.std.proofs.lemmas.List.{length-append}
@@ -8,7 +8,7 @@ use Rattle.lua_code.specs.Instr as i
 use Rattle.lua_code.specs.Instr.{Instrs, instrs_of, list_of}
 use Rattle.lua_code.specs.declared.constant.Constant.{Constant}
 use Rattle.lua_code.specs.declared.instr.Instr.{Instr}
-use Rattle.lua_code.specs.declared.instr.Instr.TheVariants.{Close, Skip, SkipIf, SkipUnless, BackIf, BackUnless, ForBegin, ForNext, EachNext, Leave}
+use Rattle.lua_code.specs.declared.instr.Instr.TheVariants.{Close, Tick, Skip, SkipIf, SkipUnless, BackIf, BackUnless, ForBegin, ForNext, EachNext, Leave}
 use Rattle.lua_code.specs.declared.instr.Site.{Site}
 use Rattle.lua_code.specs.View.{ProtoView, Inner, inner_at, site_view, instr_view, instrs_view, body_view, proto_view, inner_view, inners_behind, inners, code_at}
 use Rattle.lua_code.specs.Within.{IsProto}
@@ -77,11 +77,7 @@ get_below (y ∷ xs) zero x e = omega arith
 get_below (y ∷ xs) (suc k) x e = let l = get_below xs k x e in omega (arith, l)
 
 at_is : (p : ProtoView) (k : ℕ) (x : Instr) → slice_get p.instrs k ≡ Some x → instr_at p k ≡ x
-at_is p k x e = ap (λ o. at_or o) e
-  where
-    at_or : Option Instr → Instr
-    at_or None = x
-    at_or (Some y) = y
+at_is p k x e = ap (λ o. unwrap_or o Tick) e
 
 proto_sound : (made : List Inner) (ps : List ProtoView) (p : ProtoView) → AreInner made → IsProto p → IsSound ps (length made) p → IsSoundCode (proto_view made p)
 proto_sound made ps p sound is own =
@@ -96,9 +92,10 @@ proto_sound made ps p sound is own =
     (λ k x e s.
         let fine : IsFine ps (length made) p k = own.each k (get_below p.instrs k x e) in
         let here : instr_at p k ≡ x = at_is p k x e in
-        goes_on p.constants made p sound k _ s x
+        subst (λ n. GoesOn (length p.instrs) n (instr_view p.constants made s x)) (let e : k ≡ 0 + k = omega arith in e)
+        (goes_on p.constants made p sound k _ s x
         (subst (λ y. Reaches p (cells_behind (cells_at p k) y) k y) here fine.reaches)
-        (subst (MakesBefore (length made)) here (makes_before ps (length made) (cells_at p k) (instr_at p k) fine.uses)))))
+        (subst (MakesBefore (length made)) here (makes_before ps (length made) (cells_at p k) (instr_at p k) fine.uses))))))
 
 -- all of a list, behind those that are made
 behind_sound : (ps : List ProtoView) (rest : List ProtoView) (made : List Inner) → AreInner made → AllByRecursion IsProto rest → ((k : ℕ) (p : ProtoView) → slice_get rest k ≡ Some p → IsSound ps (length made + k) p) → AreInner (inners_behind made rest)
@@ -122,4 +119,4 @@ sound_of ps n p valid e = subst (IsSoundOf ps n) e (valid.each n (get_below ps n
 pub all_sound : AllSound
 all_sound ps are valid n lt =
     inner_sound (inners ps) n (let e = behind_length ps [] in omega (arith, e, lt))
-    (behind_sound ps ps [] tt are (λ k p e. sound_of ps k p valid e))
+    (behind_sound ps ps [] tt are (λ k p e. subst (λ n. IsSound ps n p) (let e : k ≡ 0 + k = omega arith in e) (sound_of ps k p valid e)))

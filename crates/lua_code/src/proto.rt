@@ -55,6 +55,26 @@ impl Model for Proto {
     }) };
 }
 
+// Puts an instruction and its site at the end, or neither.
+fn append(
+    instrs: &mut Vec<Instr>,
+    sites: &mut Vec<Site>,
+    instr: Instr,
+    site: Site,
+) -> Result<(), Memory>
+    ensures instrs { OnOk result (instrs.new.items ≡ instrs.old.items ++ instr ∷ []) }
+    ensures sites { OnOk result (sites.new.items ≡ sites.old.items ++ site ∷ []) }
+    ensures instrs_refused { OnErr result (instrs.new.items ≡ instrs.old.items) }
+    ensures sites_refused { OnErr result (sites.new.items ≡ sites.old.items) }
+{
+    instrs.push(instr)?;
+    if sites.push(site).is_err() {
+        let _instr = instrs.pop();
+        return Err(Memory);
+    }
+    Ok(())
+}
+
 impl Proto {
     /// The code of a function without instructions yet. `captures` are the places of the cells that
     /// it holds among those of the function around it.
@@ -97,11 +117,7 @@ impl Proto {
         ensures refused { OnErr result (self.new ≡ self.old) }
     {
         let size = self.size.max(slot_count(instr));
-        self.instrs.push(instr)?;
-        if self.sites.push(site).is_err() {
-            let _instr = self.instrs.pop();
-            return Err(Memory);
-        }
+        append(&mut self.instrs, &mut self.sites, instr, site)?;
         self.size = size;
         Ok(())
     }
