@@ -13,6 +13,7 @@ pub mod Loops
 pub mod Counting
 pub mod Writes
 pub mod Assigning
+pub mod InPlace
 pub mod LocalFunctions
 pub mod Each
 pub mod Blocks
