@@ -24,4 +24,6 @@ pub mod Keeping
 pub mod Stepping
 pub mod Trees
 pub mod Protos
+pub mod Viewing
+pub mod Callers
 pub mod of_rows

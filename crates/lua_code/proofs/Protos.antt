@@ -32,9 +32,10 @@ AreWithin size count xs = AllByRecursion (IsWithin size count) xs
 
 within_more : (size count more_size more_count : ℕ) (xs : List Instr) → size ≤ more_size → count ≤ more_count → AreWithin size count xs → AreWithin more_size more_count xs
 within_more size count more_size more_count [] a b all = tt
-within_more size count more_size more_count (x ∷ xs) a b all =
-    (record { slots = omega (arith, a, all.0.slots); constants = known_more count more_count x b all.0.constants },
-    within_more size count more_size more_count xs a b all.1)
+within_more size count more_size more_count (x ∷ xs) a b all = (
+  record { slots = omega (arith, a, all.0.slots); constants = known_more count more_count x b all.0.constants },
+  within_more size count more_size more_count xs a b all.1,
+)
 
 within_last : (size count : ℕ) (xs : List Instr) (x : Instr) → AreWithin size count xs → IsWithin size count x → AreWithin size count (xs ++ x ∷ [])
 within_last size count [] x all own = (own, tt)

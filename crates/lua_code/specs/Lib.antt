@@ -11,6 +11,7 @@ pub mod Natives
 pub mod Act
 pub mod Sound
 pub mod Trees
+pub mod Held
 pub mod Follows
 pub mod Talks
 pub mod rows

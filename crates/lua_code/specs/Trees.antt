@@ -1,9 +1,7 @@
 -- What valid prototypes stand for.
 use Rattle.std.specs.Prelude.{ℕ, ◌-◌, ◌<◌, List, length}
-use Rattle.std.specs.List.{AllByRecursion}
 use Rattle.lua_code.specs.Instr.{Proto}
 use Rattle.lua_code.specs.View.{ProtoView, code_at}
-use Rattle.lua_code.specs.Within.{IsProto}
 use Rattle.lua_code.specs.Valid.{AreValid}
 use Rattle.lua_code.specs.Sound.{IsSoundCode}
 
@@ -14,5 +12,4 @@ chunk_of ps = code_at ps (length ps - 1)
 -- each function of a valid list is sound code
 abbrev pub AllSound : Type 0
 AllSound =
-    (ps : List ProtoView) → AllByRecursion IsProto ps → AreValid ps →
-    (n : ℕ) → n < length ps → IsSoundCode (code_at ps n)
+    (ps : List ProtoView) → AreValid ps → (n : ℕ) → n < length ps → IsSoundCode (code_at ps n)

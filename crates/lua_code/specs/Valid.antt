@@ -5,6 +5,7 @@ use Rattle.lua_code.specs.declared.instr.Instr.{Instr}
 use Rattle.lua_code.specs.declared.instr.Instr.TheVariants.{GetCell, SetCell, SetCellConst, NewCell, Close, Tick, Skip, SkipIf, SkipUnless, BackIf, BackUnless, ForBegin, ForNext, EachNext, Leave}
 use Rattle.lua_code.specs.declared.instr.Site.{Site}
 use Rattle.lua_code.specs.View.{ProtoView}
+use Rattle.lua_code.specs.Within.{IsProto}
 
 -- ---- what stands at a place
 
@@ -76,6 +77,7 @@ pub record IsFine (ps : List ProtoView) (own : ℕ) (p : ProtoView) (pc : ℕ) :
 
 -- the prototype of a number: it begins with the cells that it holds
 pub record IsSound (ps : List ProtoView) (own : ℕ) (p : ProtoView) : Type 0 where
+  pub held : IsProto p
   pub short : length p.instrs < 2 ^ 32
   pub begins : Leads p (length p.captures) 0
   pub each : EachIndex p.instrs (IsFine ps own p)

@@ -1,5 +1,5 @@
 -- What a prototype's lists stand for: the code of the definitions, as a tree.
-use Rattle.std.specs.Prelude.{ℕ, Bool, false, List, [], ◌∷◌, ◌++◌, Option, Some, None, slice_get, unwrap_or}
+use Rattle.std.specs.Prelude.{ℕ, Bool, false, List, [], ◌∷◌, ◌++◌, Option, Some, None, slice_get, unwrap_or, ◌<◌, ⊤}
 use Rattle.lua_tree.specs.Tree.{Bytes}
 use Rattle.lua_tree.specs.View.{unary_view, binary_view}
 use Rattle.lua_meaning.specs.Value as meant
@@ -99,6 +99,11 @@ module _ (constants : List Constant) (made : List Inner) (s : i.Site) where
   instr_view (ForNext at count) = i.for_next at count
   instr_view (EachNext at count) = i.each_next at count
   instr_view (Leave from count tailed) = i.leave from count tailed
+
+-- a function that an instruction makes is among so many
+abbrev pub MakesBefore : ℕ → Instr → Type 0
+MakesBefore count (Close to n) = n < count
+MakesBefore count x = ⊤
 
 -- ---- functions
 

@@ -1,8 +1,8 @@
 //! The code of one function, as it is made.
 
-ghost use Rattle.std.specs.Prelude.{◌≡◌, suc, ◌<◌, [], ◌∷◌, ◌++◌, length, set, max, IfOk, OnOk, OnErr};
+ghost use Rattle.std.specs.Prelude.{◌≡◌, suc, ◌<◌, ◌↔◌, IsTrue, [], ◌∷◌, ◌++◌, length, set, max, IfOk, OnOk, OnErr};
 ghost use Rattle.lua_code.specs.Valid.{cells_at};
-ghost use Rattle.lua_code.specs.Within.{slots_of, AreKnown};
+ghost use Rattle.lua_code.specs.Within.{slots_of, AreKnown, IsProto};
 
 use crate::constant::Constant;
 use crate::instr::{Instr, Site};
@@ -79,7 +79,7 @@ impl Proto {
     /// The code of a function without instructions yet. `captures` are the places of the cells that
     /// it holds among those of the function around it.
     pub fn new(alloc: Global, file: Text, params: u32, varargs: bool, captures: List<u32>) -> Proto
-        ensures { result ≡ record {
+        ensures proto { result ≡ record {
           file = file;
           params = params;
           varargs = varargs;
@@ -89,6 +89,7 @@ impl Proto {
           sites = [];
           constants = [];
         } }
+        ensures held { IsProto result }
     {
         Proto {
             file,
@@ -115,6 +116,7 @@ impl Proto {
           sites = self.old.sites ++ site ∷ [];
         }) }
         ensures refused { OnErr result (self.new ≡ self.old) }
+        ensures held { IsProto self.new }
     {
         let size = self.size.max(slot_count(instr));
         append(&mut self.instrs, &mut self.sites, instr, site)?;
@@ -126,10 +128,11 @@ impl Proto {
     pub fn replace(&mut self, at: usize, instr: Instr)
         requires at { at < length self.old.instrs }
         requires known { AreKnown (length self.old.constants) instr }
-        ensures { self.new ≡ record self.old {
+        ensures replaced { self.new ≡ record self.old {
           size = max self.old.size (slots_of instr);
           instrs = set self.old.instrs at instr;
         } }
+        ensures held { IsProto self.new }
     {
         self.size = self.size.max(slot_count(instr));
         self.instrs[at] = instr;
@@ -147,6 +150,7 @@ impl Proto {
           constants = self.old.constants ++ constant ∷ [];
         }) }
         ensures refused { OnErr result (self.new ≡ self.old) }
+        ensures held { IsProto self.new }
     {
         let Ok(number) = u32::try_from(self.constants.len()) else {
             return Err(Memory);
@@ -157,7 +161,8 @@ impl Proto {
 
     /// How many instructions there are, in constant time.
     pub fn len(&self) -> usize
-        ensures { result ≡ length self.now.instrs }
+        ensures len { result ≡ length self.now.instrs }
+        ensures held { IsProto self.now }
     {
         self.instrs.len()
     }
@@ -186,6 +191,32 @@ impl Proto {
         ensures { result.now ≡ self.now.instrs }
     {
         &self.instrs
+    }
+
+    /// Whether the constants that an instruction names are there.
+    pub fn knows(&self, instr: Instr) -> bool
+        ensures { IsTrue result ↔ AreKnown (length self.now.constants) instr }
+    {
+        let count = self.constants.len();
+        match instr {
+            Instr::Const { constant, .. }
+            | Instr::SetCellConst { constant, .. }
+            | Instr::SetItemConst { constant, .. }
+            | Instr::SetNewConst { constant, .. }
+            | Instr::BinaryConst { constant, .. }
+            | Instr::SetFieldConst { constant, .. } => (constant as usize) < count,
+            Instr::SetNewNamed { name, .. }
+            | Instr::GetNamed { name, .. }
+            | Instr::GetGlobal { name, .. }
+            | Instr::SetNamed { name, .. }
+            | Instr::SetGlobal { name, .. } => (name as usize) < count,
+            Instr::SetNewNamedConst { name, constant, .. }
+            | Instr::SetNamedConst { name, constant, .. }
+            | Instr::SetGlobalConst { name, constant } => {
+                (name as usize) < count && (constant as usize) < count
+            }
+            _ => true,
+        }
     }
 
     /// How many constants there are, in constant time.

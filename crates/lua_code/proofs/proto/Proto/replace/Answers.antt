@@ -11,3 +11,9 @@ invariant_of-self c =
     let known = subst (λ (v : ProtoView). AreKnown (length v.constants) c.args.instr) (sym c.self.view_is) c.requires.known in
     let size : c.max-self-inside.result ≡ max c.self.inside.size (slots_of c.args.instr) = omega (arith, c.max-self-inside.ensures, c.slot_count.ensures) in
     replaced_as (the_view c.self.inside) c.args.at c.args.instr c.max-self-inside.result c.self.invariant known size
+
+pub returns-clause-held : goal.returns-clause-held
+returns-clause-held c =
+    let known = subst (λ (v : ProtoView). AreKnown (length v.constants) c.args.instr) (sym c.self.view_is) c.requires.known in
+    let size : c.max-self-inside.result ≡ max c.self.inside.size (slots_of c.args.instr) = omega (arith, c.max-self-inside.ensures, c.slot_count.ensures) in
+    replaced_as (the_view c.self.inside) c.args.at c.args.instr c.max-self-inside.result c.self.invariant known size
