@@ -36,8 +36,8 @@ fn is_valid(alloc: Global, rows: &[(Instr, u32)]) -> Result<bool, Memory> {
 }
 
 #[test]
-fn an_instruction_is_sixteen_bytes(rt: HostRuntime) {
-    assert_eq!(rt; size_of::<Instr>(), 16);
+fn an_instruction_is_twenty_bytes(rt: HostRuntime) {
+    assert_eq!(rt; size_of::<Instr>(), 20);
 }
 
 #[test]
