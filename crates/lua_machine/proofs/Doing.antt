@@ -1,18 +1,29 @@
 -- What a change of the machine's is to the definitions.
 use Rattle.std.proofs.Common.{◌≡◌, ℕ, zero, suc, ◌+◌, ◌-◌, ◌<◌, List, [], ◌∷◌, length, set, Bool, true, false, refl, sym, ap, ◌∙◌, subst, Option, Some, None, slice_get, arith}
 use Rattle.std.proofs.lemmas.Bool.{eq-eqb, eqb-true}
-use Rattle.std.specs.Prelude.{◌==◌, if◌then◌else◌, unwrap_or, map}
+use Rattle.std.specs.Prelude.{◌==◌, if◌then◌else◌, unwrap_or, map, ℤ}
 use Rattle.std.specs.List.{AllByRecursion}
-use Rattle.lua_tree.specs.Tree.{Bytes}
+use Rattle.std.proofs.lemmas.List.{length-map}
+use Rattle.lua_tree.specs.Tree.{Bytes, BinOp}
 use Rattle.lua_meaning.specs.Value as meant
+use Rattle.lua_meaning.specs.Value.{num}
+use Rattle.lua_meaning.specs.Store.{Store, set_cell, add_table}
+use Rattle.lua_meaning.specs.Handlers as handlers
+use Rattle.lua_meaning.specs.Handlers.{lookup}
 use Rattle.lua_meaning.specs.Message.{Ask}
 use Rattle.lua_heap.specs.declared.value.Value.{Value}
+use Rattle.lua_heap.specs.declared.value.Value.TheVariants.{Table}
 use Rattle.lua_heap.specs.Value.{value_view, IsCounted}
-use Rattle.lua_heap.specs.Heap.{HeapView, counts, IsMade}
-use Rattle.lua_code.specs.State.{put, Step, on}
+use Rattle.lua_heap.specs.Heap.{HeapView, store_of, table_view, counts, IsMade, Becomes, Extends}
+use Rattle.lua_heap.proofs.Callers.{IsMade-later}
+use Rattle.lua_code.specs.Instr as i
+use Rattle.lua_code.specs.Instr.{Site, binary, get_field, slot}
+use Rattle.lua_code.specs.Doing.{Doing, binary_doing, looked_up}
+use Rattle.lua_code.specs.State.{put, Config, Step, on}
 use Rattle.lua_code.specs.Act as act
-use Rattle.lua_machine.specs.View.{MachineView, value_at, slots_view, registers_of, run_of, frames_of, state_of, config_of}
-use Rattle.lua_machine.specs.Made.{AreMade, IsMachine}
+use Rattle.lua_machine.specs.View.{MachineView, value_at, cell_at, slots_view, registers_of, run_of, frames_of, state_in, state_of, config_in, config_of}
+use Rattle.lua_machine.specs.Made.{AreMade, IsMadeLoaded, IsMachine}
+use Rattle.lua_machine.specs.Numbers.{GivesOfNumbers}
 use Rattle.lua_machine.specs.Does.{with_slot, at_pc, Did}
 
 -- ---- lists
@@ -77,3 +88,73 @@ puts m n v w lt same asks =
       registers = record { slots = slots; cells = (registers_of m).cells; tail = (registers_of m).tail };
       state = state_of asks m;
     })) (slots_set m.heap.texts m.values (m.base + n) v lt)
+
+-- where two numbers stand in slots
+pub binary_did : (m : MachineView) (s : Site) (op : BinOp) (to left right : ℕ) (x y : ℤ) (v : Value) → m.base + to < length m.values → slots_view m.heap.texts m.values (m.base + left) ≡ num x → slots_view m.heap.texts m.values (m.base + right) ≡ num y → GivesOfNumbers op x y v → Did (binary s op to (slot left) (slot right)) m (with_slot m to v)
+binary_did m s op to left right x y v lt a b g asks =
+    ap (λ w. does_on asks (binary_doing op (store_of m.heap) w (slots_view m.heap.texts m.values (m.base + right)))) a
+    ∙ ap (λ w. does_on asks (binary_doing op (store_of m.heap) (num x) w)) b
+    ∙ ap (λ d. does_on asks d) (g.gives m.heap (store_of m.heap))
+    ∙ puts m to v _ lt refl asks
+  where
+    does_on : List Ask → Doing → Step
+    does_on asks d = act.does (run_of m) (frames_of m) (registers_of m) (state_of asks m) s to d
+
+-- ---- a heap that changes
+
+module _ {X : Type 0} where
+  weaker : (P Q : X → Type 0) (xs : List X) → ((x : X) → P x → Q x) → AllByRecursion P xs → AllByRecursion Q xs
+  weaker P Q [] f all = tt
+  weaker P Q (x ∷ xs) f all = (f x all.0, weaker P Q xs f all.1)
+
+-- a machine whose heap has made more
+pub later_at : (m : MachineView) (h : HeapView) (pc : ℕ) → Extends m.heap h → IsMachine m → IsMachine (record m { heap = h; pc = pc })
+later_at m h pc more is =
+    record {
+      values = values m.values is.values;
+      tail = values m.tail is.tail;
+      extras = values m.extras is.extras;
+      cells = weaker (λ (c : ℕ). c < length m.heap.cells) (λ (c : ℕ). c < length h.cells) m.cells (λ c lt. let le = more.cells in omega (arith, lt, le)) is.cells;
+      loaded = weaker (IsMadeLoaded m.heap) (IsMadeLoaded h) m.loaded (λ x all. values x.constants all) is.loaded;
+    }
+  where
+    values : (vs : List Value) → AreMade m.heap vs → AreMade h vs
+    values vs all = weaker (IsCounted (counts m.heap)) (IsCounted (counts h)) vs (λ v made. IsMade-later m.heap h more v made) all
+
+-- what it is to the definitions, where the heap's strings and functions stay
+pub becomes_config : (m : MachineView) (h : HeapView) (change : Store → Store) (asks : List Ask) → Becomes m.heap h change → config_of asks (record m { heap = h }) ≡ config_in m.heap.texts m.heap.functions (change (store_of m.heap)) asks m
+becomes_config m h change asks b =
+    ap (λ t. config_in t h.functions (store_of h) asks m) b.texts
+    ∙ ap (λ f. config_in m.heap.texts f (store_of h) asks m) b.functions
+    ∙ ap (λ s. config_in m.heap.texts m.heap.functions s asks m) b.store
+
+-- where a field is found
+pub field_did : (m : MachineView) (s : Site) (to base key : ℕ) (v : Value) → m.base + to < length m.values → lookup (store_of m.heap) (slots_view m.heap.texts m.values (m.base + base)) (slots_view m.heap.texts m.values (m.base + key)) ≡ handlers.found (value_view m.heap.texts v) → Did (get_field s to (slot base) (slot key)) m (with_slot m to v)
+field_did m s to base key v lt found asks =
+    ap (λ o. act.does (run_of m) (frames_of m) (registers_of m) (state_of asks m) s to (looked_up (slots_view m.heap.texts m.values (m.base + key)) o)) found
+    ∙ puts m to v _ lt refl asks
+
+-- where a cell is set
+pub cell_set : (m : MachineView) (h : HeapView) (cell from id : ℕ) (v : Value) → id ≡ cell_at m.cells (m.cell_base + cell) → v ≡ value_at m.values (m.base + from) → Becomes m.heap h (λ s. set_cell s id (value_view m.heap.texts v)) → Did (i.set_cell cell (slot from)) m (record m { heap = h; pc = m.pc + 1 })
+cell_set m h cell from id v same_id same_value b asks =
+    ap (λ n. on (config_in m.heap.texts m.heap.functions (set_cell (store_of m.heap) n (slots_view m.heap.texts m.values (m.base + from))) asks (at_pc m (m.pc + 1)))) (sym same_id)
+    ∙ ap (λ w. on (config_in m.heap.texts m.heap.functions (set_cell (store_of m.heap) id (value_view m.heap.texts w)) asks (at_pc m (m.pc + 1)))) (sym same_value)
+    ∙ ap on (sym (becomes_config (at_pc m (m.pc + 1)) h (λ s. set_cell s id (value_view m.heap.texts v)) asks b))
+
+-- where a table is made
+pub table_made : (m : MachineView) (h : HeapView) (to id : ℕ) → m.base + to < length m.values → id ≡ length m.heap.tables → Becomes m.heap h add_table → Did (i.new_table to) m (with_slot (record m { heap = h }) to (Table id))
+table_made m h to id lt same_id b asks =
+    ap (λ n. on (going n)) (length-map m.heap.tables (table_view m.heap.texts) ∙ sym same_id)
+    ∙ ap (λ (slots : ℕ → meant.Value). on (with_slots slots)) (slots_set m.heap.texts m.values (m.base + to) (Table id) lt)
+    ∙ ap on (sym (becomes_config (with_slot m to (Table id)) h add_table asks b))
+  where
+    with_slots : (ℕ → meant.Value) → Config
+    with_slots slots = record {
+      active = (config_of asks (at_pc m (m.pc + 1))).active;
+      frames = frames_of m;
+      registers = record { slots = slots; cells = (registers_of m).cells; tail = (registers_of m).tail };
+      state = state_in m.heap.functions (add_table (store_of m.heap)) asks m;
+    }
+
+    going : ℕ → Config
+    going n = with_slots (put (slots_view m.heap.texts m.values) (m.base + to) (meant.table n))

@@ -35,3 +35,7 @@ with_slot m n v = record m { values = set m.values (m.base + n) v; pc = m.pc + 1
 
 abbrev pub at_pc : MachineView → ℕ → MachineView
 at_pc m pc = record m { pc = pc }
+
+-- a cell of the running function is among those that there are
+abbrev pub HasCell : MachineView → ℕ → Type 0
+HasCell m n = m.cell_base + n < length m.cells

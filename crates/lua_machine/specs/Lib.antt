@@ -1,3 +1,4 @@
 pub mod View
 pub mod Made
 pub mod Does
+pub mod Numbers

@@ -2,6 +2,7 @@
 use Rattle.std.specs.Prelude.{ℕ, ◌+◌, ◌-◌, List, [], ◌∷◌, ◌++◌, length, map, take, drop, reverse, Option, Some, None, slice_get, unwrap_or}
 use Rattle.lua_tree.specs.Tree.{Bytes}
 use Rattle.lua_meaning.specs.Value as meant
+use Rattle.lua_meaning.specs.Store.{Store}
 use Rattle.lua_meaning.specs.Message.{Ask}
 use Rattle.lua_meaning.specs.Fault.{Place}
 use Rattle.lua_heap.specs.declared.entries.Function.{Function}
@@ -48,13 +49,16 @@ cell_at cells n = unwrap_or (slice_get cells n) 0
 abbrev pub slots_view : List Bytes → List Value → ℕ → meant.Value
 slots_view texts values n = value_view texts (value_at values n)
 
-abbrev pub registers_of : MachineView → Registers
-registers_of m =
+abbrev pub registers_in : List Bytes → MachineView → Registers
+registers_in texts m =
     record {
-      slots = slots_view m.heap.texts m.values;
+      slots = slots_view texts m.values;
       cells = cell_at m.cells;
-      tail = map (value_view m.heap.texts) m.tail;
+      tail = map (value_view texts) m.tail;
     }
+
+abbrev pub registers_of : MachineView → Registers
+registers_of m = registers_in m.heap.texts m
 
 -- ---- code
 
@@ -89,14 +93,15 @@ line_of None pc = 0
 line_of (Some x) pc = line_at (slice_get x.proto.sites (pc - 1))
 
 -- a function whose extra arguments go up to a place
-abbrev pub running : MachineView → (func pc base cell_base extra_base top : ℕ) → Running
-running m func pc base cell_base extra_base top =
+abbrev pub running : List Bytes → MachineView → (func pc base cell_base extra_base top : ℕ) →
+    Running
+running texts m func pc base cell_base extra_base top =
     record {
       code = code_of m.loaded func;
       pc = pc;
       base = base;
       cell_base = cell_base;
-      extra = map (value_view m.heap.texts) (drop extra_base (take top m.extras));
+      extra = map (value_view texts) (drop extra_base (take top m.extras));
     }
 
 abbrev pub place_of : MachineView → Frame → Place
@@ -107,18 +112,24 @@ place_of m f =
     }
 
 -- the frames from the top one on, whose extra arguments go up to a place
-abbrev pub frames_below : MachineView → (top : ℕ) → List Frame → List s.Frame
-frames_below m top [] = []
-frames_below m top (f ∷ frames) =
-    waits (running m f.func f.pc f.base f.cell_base f.extra_base top) (wants_view f.wants)
+abbrev pub frames_below : List Bytes → MachineView → (top : ℕ) → List Frame → List s.Frame
+frames_below texts m top [] = []
+frames_below texts m top (f ∷ frames) =
+    waits (running texts m f.func f.pc f.base f.cell_base f.extra_base top) (wants_view f.wants)
     (Some (place_of m f))
-    ∷ frames_below m f.extra_base frames
+    ∷ frames_below texts m f.extra_base frames
+
+abbrev pub frames_in : List Bytes → MachineView → List s.Frame
+frames_in texts m = frames_below texts m m.extra_base (reverse m.frames)
 
 abbrev pub frames_of : MachineView → List s.Frame
-frames_of m = frames_below m m.extra_base (reverse m.frames)
+frames_of m = frames_in m.heap.texts m
+
+abbrev pub run_in : List Bytes → MachineView → Running
+run_in texts m = running texts m m.func m.pc m.base m.cell_base m.extra_base (length m.extras)
 
 abbrev pub run_of : MachineView → Running
-run_of m = running m m.func m.pc m.base m.cell_base m.extra_base (length m.extras)
+run_of m = run_in m.heap.texts m
 
 -- ---- the whole
 
@@ -126,11 +137,11 @@ abbrev pub made_view : List Loaded → Function → Made
 made_view loaded f = record { code = code_of loaded f.proto; cells = f.cells }
 
 -- what the machine doesn't keep: the asks that were answered, and modules until it loads any
-abbrev pub state_of : List Ask → MachineView → State
-state_of asks m =
+abbrev pub state_in : List Function → Store → List Ask → MachineView → State
+state_in functions store asks m =
     record {
-      store = store_of m.heap;
-      functions = map (made_view m.loaded) m.heap.functions;
+      store = store;
+      functions = map (made_view m.loaded) functions;
       modules = [];
       output = m.output;
       ends = m.ends;
@@ -138,11 +149,18 @@ state_of asks m =
       asks = asks;
     }
 
-abbrev pub config_of : List Ask → MachineView → Config
-config_of asks m =
+abbrev pub state_of : List Ask → MachineView → State
+state_of asks m = state_in m.heap.functions (store_of m.heap) asks m
+
+-- by what the heap's strings, functions and store are
+abbrev pub config_in : List Bytes → List Function → Store → List Ask → MachineView → Config
+config_in texts functions store asks m =
     record {
-      active = lua (run_of m);
-      frames = frames_of m;
-      registers = registers_of m;
-      state = state_of asks m;
+      active = lua (run_in texts m);
+      frames = frames_in texts m;
+      registers = registers_in texts m;
+      state = state_in functions store asks m;
     }
+
+abbrev pub config_of : List Ask → MachineView → Config
+config_of asks m = config_in m.heap.texts m.heap.functions (store_of m.heap) asks m

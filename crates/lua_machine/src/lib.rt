@@ -1,14 +1,15 @@
 //! The machine that runs code of Lua.
 #![tactic(auto)]
 
-mod arithmetic;
-mod comparing;
+mod cells;
 mod frame;
 mod jumps;
 mod loaded;
 mod loops;
 mod machine;
 mod moves;
+mod numbers;
 mod registers;
+mod tables;
 
 pub use machine::Machine;
