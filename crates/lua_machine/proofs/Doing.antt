@@ -33,7 +33,7 @@ value_set_same [] n x lt = absurd (let e : ⊥ = omega (arith, lt) in e)
 value_set_same (y ∷ xs) zero x lt = refl
 value_set_same (y ∷ xs) (suc n) x lt = value_set_same xs n x (omega (arith, lt))
 
-value_set_other : (xs : List Value) (n k : ℕ) (x : Value) → (k ≡ n → ⊥) → value_at (set xs n x) k ≡ value_at xs k
+pub value_set_other : (xs : List Value) (n k : ℕ) (x : Value) → (k ≡ n → ⊥) → value_at (set xs n x) k ≡ value_at xs k
 value_set_other [] n k x other = refl
 value_set_other (y ∷ xs) zero zero x other = absurd (other refl)
 value_set_other (y ∷ xs) zero (suc k) x other = refl

@@ -2,3 +2,4 @@ pub mod View
 pub mod Made
 pub mod Does
 pub mod Numbers
+pub mod Turns
