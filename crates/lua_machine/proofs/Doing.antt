@@ -1,7 +1,7 @@
 -- What a change of the machine's is to the definitions.
-use Rattle.std.proofs.Common.{◌≡◌, ℕ, zero, suc, ◌+◌, ◌-◌, ◌<◌, List, [], ◌∷◌, length, set, Bool, true, false, refl, sym, ap, ◌∙◌, subst, Option, Some, None, slice_get, arith}
+use Rattle.std.proofs.Common.{◌≡◌, ℕ, zero, suc, ◌+◌, ◌<◌, List, [], ◌∷◌, length, set, Bool, true, false, refl, sym, ap, ◌∙◌, arith}
 use Rattle.std.proofs.lemmas.Bool.{eq-eqb, eqb-true}
-use Rattle.std.specs.Prelude.{◌==◌, if◌then◌else◌, unwrap_or, map, ℤ}
+use Rattle.std.specs.Prelude.{◌==◌, if◌then◌else◌, ℤ}
 use Rattle.std.specs.List.{AllByRecursion}
 use Rattle.std.proofs.lemmas.List.{length-map}
 use Rattle.lua_tree.specs.Tree.{Bytes, BinOp}
@@ -18,7 +18,7 @@ use Rattle.lua_heap.specs.Heap.{HeapView, store_of, table_view, counts, IsMade, 
 use Rattle.lua_heap.proofs.Callers.{IsMade-later}
 use Rattle.lua_code.specs.Instr as i
 use Rattle.lua_code.specs.Instr.{Site, binary, get_field, slot}
-use Rattle.lua_code.specs.Doing.{Doing, binary_doing, looked_up}
+use Rattle.lua_code.specs.Doing.{Doing, gives, binary_doing, looked_up}
 use Rattle.lua_code.specs.State.{put, Config, Step, on}
 use Rattle.lua_code.specs.Act as act
 use Rattle.lua_machine.specs.View.{MachineView, value_at, cell_at, slots_view, registers_of, run_of, frames_of, state_in, state_of, config_in, config_of}
@@ -158,3 +158,8 @@ table_made m h to id lt same_id b asks =
 
     going : ℕ → Config
     going n = with_slots (put (slots_view m.heap.texts m.values) (m.base + to) (meant.table n))
+
+-- where an operator gives a value
+pub gives_did : (m : MachineView) (s : Site) (to : ℕ) (d : Doing) (v : Value) → m.base + to < length m.values → d ≡ gives (value_view m.heap.texts v) → (asks : List Ask) → act.does (run_of m) (frames_of m) (registers_of m) (state_of asks m) s to d ≡ on (config_of asks (with_slot m to v))
+gives_did m s to d v lt e asks =
+    ap (λ d. act.does (run_of m) (frames_of m) (registers_of m) (state_of asks m) s to d) e ∙ puts m to v _ lt refl asks

@@ -2,7 +2,6 @@
 use Rattle.std.specs.Prelude.{◌≡◌, ℕ, ◌+◌, ◌<◌, Bool, true, false, List, length, set}
 use Rattle.lua_meaning.specs.Message.{Ask}
 use Rattle.lua_heap.specs.declared.value.Value.{Value}
-use Rattle.lua_heap.specs.Heap.{IsMade}
 use Rattle.lua_code.specs.Instr as i
 use Rattle.lua_code.specs.State.{Step, on, stop, no_ticks}
 use Rattle.lua_code.specs.Act.{act_on}

@@ -1,5 +1,5 @@
 -- Binary operators on two numbers.
-use Rattle.std.specs.Prelude.{◌≡◌, ℤ, List, []}
+use Rattle.std.specs.Prelude.{◌≡◌, ℤ}
 use Rattle.lua_tree.specs.Tree.{BinOp}
 use Rattle.lua_meaning.specs.Value.{num}
 use Rattle.lua_meaning.specs.Store.{Store}

@@ -13,7 +13,7 @@ use lua_heap::Value;
 impl Machine {
     // Whether a slot is true.
     #[inline]
-    fn is_true(&self, slot: u32) -> bool
+    pub(crate) fn is_true(&self, slot: u32) -> bool
         requires slot { HasSlot self.now slot }
         ensures { result ≡ is_true (value_view self.now.heap.texts
             (value_at self.now.values (self.now.base + slot))) }

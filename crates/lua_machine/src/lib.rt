@@ -9,6 +9,7 @@ mod loops;
 mod machine;
 mod moves;
 mod numbers;
+mod operators;
 mod registers;
 mod tables;
 

@@ -1,6 +1,6 @@
 //! Numeric loops.
 
-ghost use Rattle.std.specs.Prelude.{◌≡◌, ◌+◌, ◌-◌, ◌<◌, ◌≤◌, ◌^◌, length, Some};
+ghost use Rattle.std.specs.Prelude.{◌≡◌, ◌+◌, ◌-◌, ◌<◌, ◌≤◌, ◌^◌, Some};
 ghost use Rattle.std.specs.Bool.{OnFalse};
 ghost use Rattle.lua_meaning.specs.Running.{is_counting};
 ghost use Rattle.lua_heap.specs.declared.value.Value.TheVariants.{Num as Number};
@@ -8,7 +8,7 @@ ghost use Rattle.lua_heap.specs.Value.{value_view};
 ghost use Rattle.lua_code.specs.Instr.{for_next};
 ghost use Rattle.lua_machine.specs.View.{value_at};
 ghost use Rattle.lua_machine.specs.Does.{DidOr, HasSlot};
-ghost use Rattle.lua_machine.specs.Turns.{TurnedOr, numbers_at, three_numbers};
+ghost use Rattle.lua_machine.specs.Turns.{TurnedOr, numbers_at};
 
 use crate::machine::Machine;
 use lua_heap::Value;
@@ -27,13 +27,13 @@ fn is_counting(number: Num, limit: Num, step: Num) -> bool
 }
 
 impl Machine {
-    // The numbers that stand in three slots, where they are numbers.
+    // The numbers that stand in a loop's first three slots, where they are numbers.
     #[inline]
-    fn three_numbers(&self, first: usize) -> Option<(Num, Num, Num)>
-        requires slots { first + 2 < length self.now.values }
-        ensures { result ≡ three_numbers (value_at self.now.values first)
-            (value_at self.now.values (first + 1)) (value_at self.now.values (first + 2)) }
+    fn three_numbers(&self, at: u32) -> Option<(Num, Num, Num)>
+        requires slots { HasSlot self.now (at + 3) }
+        ensures { result ≡ numbers_at self.now at }
     {
+        let first = self.base + at as usize;
         let Value::Num(number) = self.values[first] else {
             return None;
         };
@@ -80,7 +80,7 @@ impl Machine {
         requires back { count ≤ self.old.pc }
         ensures { DidOr (for_next at count) result self.old self.new }
     {
-        let numbers = self.three_numbers(self.base + at as usize);
+        let numbers = self.three_numbers(at);
         match numbers {
             Some(numbers) => self.next_number(at, count, numbers),
             None => {

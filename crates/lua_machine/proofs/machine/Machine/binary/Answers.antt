@@ -1,4 +1,4 @@
-use Rattle.std.proofs.Common.{◌≡◌, sym, ap, ◌∙◌}
+use Rattle.std.proofs.Common.{sym, ap, ◌∙◌}
 use Rattle.lua_tree.specs.View.{binary_view}
 use Rattle.lua_heap.specs.Value.{value_view}
 use Rattle.lua_code.specs.State.{on}

@@ -1,4 +1,4 @@
-use Rattle.std.proofs.Common.{◌≡◌, sym, ap, ◌∙◌}
+use Rattle.std.proofs.Common.{sym, ap, ◌∙◌}
 use Rattle.lua_code.specs.State.{on}
 use Rattle.lua_machine.specs.View.{config_of}
 use Rattle.lua_machine.proofs.Doing.{puts}

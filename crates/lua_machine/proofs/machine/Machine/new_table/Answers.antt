@@ -1,4 +1,4 @@
-use Rattle.std.proofs.Common.{◌≡◌, ◌+◌, ◌<◌, length, sym, subst}
+use Rattle.std.proofs.Common.{◌+◌, ◌<◌, length, sym, subst}
 use Rattle.lua_code.specs.Instr.{new_table}
 use Rattle.lua_machine.specs.View.{MachineView}
 use Rattle.lua_machine.specs.Does.{Did}

@@ -1,4 +1,4 @@
-use Rattle.std.proofs.Common.{◌≡◌, ◌+◌, ◌-◌, sym, ap, subst, ◌∙◌}
+use Rattle.std.proofs.Common.{◌+◌, ◌-◌, sym, ap, subst, ◌∙◌}
 use Rattle.lua_code.specs.State.{on}
 use Rattle.lua_machine.specs.View.{MachineView, config_of}
 use Rattle.lua_machine.specs.Does.{at_pc}
@@ -16,4 +16,4 @@ pub returns-in-Err : goal.returns-in-Err
 returns-in-Err c = λ asks.
     let n = c.args.numbers in
     next_ends c.args.self.now c.args.at c.args.count n.0 n.1 n.2 c.in-Err.field-0 c.requires.numbers (sym c.add.ensures ∙ c.in-Err.is) asks
-    ∙ ap (λ (v : MachineView). on (config_of asks (at_pc v (v.pc + 1)))) (sym c.self.view_is)
+    ∙ ap (λ (v : MachineView). on (config_of asks (at_pc v (v.pc + 1)))) (sym c.self-in-Err.view_is)

@@ -1,4 +1,4 @@
-use Rattle.std.proofs.Common.{◌≡◌, ◌+◌, ◌-◌, ◌<◌, length, set, Bool, true, false, sym, subst, ◌∙◌, List, arith}
+use Rattle.std.proofs.Common.{◌≡◌, ◌+◌, ◌-◌, ◌<◌, length, set, true, false, sym, subst, List, arith}
 use Rattle.lua_meaning.specs.Message.{Ask}
 use Rattle.lua_meaning.specs.Running.{is_counting}
 use Rattle.lua_heap.specs.declared.value.Value.TheVariants.{Num}
