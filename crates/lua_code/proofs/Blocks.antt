@@ -1,20 +1,20 @@
 -- Statements and blocks in the machine come to what they mean.
 use Rattle.std.proofs.Common.{ℕ, suc, ◌+◌, ◌≡◌, ◌≤◌, refl, sym, ap, ◌∙◌, subst, List, [], ◌∷◌, ◌++◌, length, Option, Some, None, Bool, true, false, arith, length-append, append_assoc, ℤ, pos}
 use Rattle.std.specs.Prelude.{if◌then◌else◌, codes}
-use Rattle.lua_tree.specs.Tree.{Bytes, Expr, function, Exprs, Block, no_stats, stat_and, Stat, assign, local, call_stat, do_block, while_loop, repeat_loop, if_stat, num_for, num_for_by, gen_for, function_stat, local_function, return_stat, break_stat, Arms, no_else, else_block, arm_and, Func}
+use Rattle.lua_tree.specs.Tree.{Bytes, Expr, nil, true_, false_, number, str, dots, function, name, index, call, method, table, unary, binary, paren, Exprs, no_exprs, expr_and, Block, no_stats, stat_and, Stat, assign, local, call_stat, do_block, while_loop, repeat_loop, if_stat, num_for, num_for_by, gen_for, function_stat, local_function, return_stat, break_stat, Arms, no_else, else_block, arm_and, Func}
 use Rattle.lua_meaning.specs.Value.{Value, first, is_true, num}
 use Rattle.lua_meaning.specs.Text.{as_number}
 use Rattle.lua_meaning.specs.Names.{block_names, func_names, is_captured}
-use Rattle.lua_meaning.specs.World.{World, gives, ◌>>>◌, ◌>>=◌, give, one, take_tick, given}
-use Rattle.lua_meaning.specs.Locals.{Env, Flow, normal, broken, returned, declare, make_slot, set_local, closed, go_on}
+use Rattle.lua_meaning.specs.World.{World, Ends, gives, fails, out_of_steps, needs, ◌>>>◌, ◌>>=◌, give, one, take_tick, given}
+use Rattle.lua_meaning.specs.Locals.{Env, find, Flow, normal, broken, returned, declare, make_slot, set_local, closed, go_on}
 use Rattle.lua_meaning.specs.Calls.{Later, Here, Task, while_turn, repeat_turn, count_turn}
 use Rattle.lua_meaning.specs.Control.{Game}
 use Rattle.lua_meaning.specs.Expressions.{eval, evals}
-use Rattle.lua_meaning.specs.Statements.{exec, block, choose, target, targets, assign_to, assign_all, wants_number, for_numbers}
+use Rattle.lua_meaning.specs.Statements.{exec, block, choose, name_target, target, targets, assign_to, assign_all, wants_number, for_numbers}
 use Rattle.lua_code.specs.Instr as i
 use Rattle.lua_code.specs.Instr.{Instr, file_of, code_of, slot, constant}
-use Rattle.lua_code.specs.Scope.{Kind, in_slot, in_cell, outside, Scope, named, kind_of, cell_code, seat_behind, seat_of, slot_count, cell_count, declare_code}
-use Rattle.lua_code.specs.Code.{local_code, width, widths, target_count, store, stores, target_code, targets_code, ready_slot, slot_place, site, fitted, tailed, count, skip_over, expr_code, exprs_code, block_code, stat_code, arms_code, scope_behind, scope_at_end, numbers_in, count_code}
+use Rattle.lua_code.specs.Scope.{Kind, in_slot, in_cell, outside, Scope, named, kind_of, cell_code, Seat, at_slot, at_cell, seat_behind, seat_of, slot_count, cell_count, declare_code}
+use Rattle.lua_code.specs.Code.{seat_slot, in_place, local_code, width, widths, target_count, store, stores, target_code, targets_code, ready_slot, slot_place, site, fitted, tailed, count, skip_over, expr_code, exprs_code, block_code, stat_code, arms_code, scope_behind, scope_at_end, numbers_in, count_code}
 use Rattle.lua_code.specs.State.{Registers, put_slot, Running, Frame, lua, on}
 use Rattle.lua_code.specs.Frames.{finish, ticking}
 use Rattle.lua_code.specs.Natives.{Program}
@@ -29,6 +29,7 @@ use Rattle.lua_code.proofs.Nodes.{weaken, list_is, single_on, expr_goes, exprs_g
 use Rattle.lua_code.proofs.Scopes.{After, Closed, Unmoved, unmoved_below, unmoved_self, unmoved_on, unmoved_outer, after_closed, after_less, behind_more}
 use Rattle.lua_code.proofs.LocalFunctions.{seat_is, placed}
 use Rattle.lua_code.proofs.Each.{each_begins}
+use Rattle.lua_code.proofs.InPlace.{in_place_goes}
 use Rattle.lua_code.proofs.Assigning.{target_goes, target_stored, targets_goes, stores_goes, fits_stays, all_stay}
 use Rattle.lua_code.proofs.Statements.{values_goes, one_declared, slots_one, cells_one, declare_goes, scoped_goes}
 use Rattle.lua_code.proofs.Claims.{flow_at, test_code, while_body, turn_code, Claim, Does, Runs, Chooses}
@@ -262,8 +263,27 @@ module _ (game : Game) (n : ℕ) (again : Later) (claim : (t : Task) → Claim g
 
   -- ---- assignments
 
-  assign_goes : (line : ℕ) (ts es : Exprs) → Does game n again run frames (assign line ts es)
-  assign_goes line ts es later pc end exit scope env r w lw ee st hs =
+  single_assigned : (e : Ends (List Value)) (f : List Value → World → Ends Env)
+      → ((e >>> f) >>> λ env w. gives (normal env) w) ≡ (e >>> (λ vs w. gives vs w) >>> λ vs w. f vs w >>> λ env w. gives (normal env) w)
+  single_assigned (gives vs w) f = refl
+  single_assigned (fails v w) f = refl
+  single_assigned (out_of_steps w) f = refl
+  single_assigned (needs ask w) f = refl
+
+  abbrev Assigns : (line : ℕ) → (ts es : Exprs) → Scope → List Instr → Type 0
+  Assigns line ts es scope xs =
+      (later : List Bytes) (pc end exit : ℕ) (env : Env) (r : Registers) (w : World) → suc w.ticks ≤ n → end ≡ pc + length xs → Stands code pc xs → Holds r run.base run.cell_base scope env
+      → Goes P w.ticks frames run.base run.cell_base r (going P run pc frames w r) (exec again here later (assign line ts es) env w) (Ran scope scope r) (flow_at P run end (end + exit) frames)
+
+  -- all targets, then all values, and then what they are assigned
+  abbrev apart_code : (ts es : Exprs) → Scope → List Instr
+  apart_code ts es scope =
+      let at = slot_count scope in
+      let from = at + widths ts in
+      targets_code ts file scope at ++ (exprs_code es file scope from ++ (fitted from (target_count ts) (count es) (tailed es) ++ stores ts (from + target_count ts) scope at from))
+
+  assign_apart : (line : ℕ) (ts es : Exprs) (scope : Scope) → Assigns line ts es scope (apart_code ts es scope)
+  assign_apart line ts es scope later pc end exit env r w lw ee st hs =
       let at = slot_count scope in
       let from = at + widths ts in
       let some = run.cell_base + cell_count scope in
@@ -286,6 +306,39 @@ module _ (game : Game) (n : ℕ) (again : Later) (claim : (t : Task) → Claim g
       (λ env' w z l3 z_stays kept.
       let st_u : Unmoved r u run.base scope = unmoved_below r u run.base (run.base + at) scope (omega arith) (λ k l. v_is.1.slots k (omega (arith, l)) ∙ f.1.slots k l) in
       (z, omega arith, stays_self z run.base run.cell_base, (kept.holds, unmoved_on r u z run.base scope st_u kept.unmoved), comes_self _))))
+
+  -- one local that stands in a slot
+  assign_name : (o : Option Seat) (line m : ℕ) (x : Bytes) (e : Expr) (scope : Scope) → seat_of scope x ≡ o → Assigns line (expr_and (name m x) no_exprs) (expr_and e no_exprs) scope (in_place (seat_slot o) (expr_code e file scope (slot_count scope)) (apart_code (expr_and (name m x) no_exprs) (expr_and e no_exprs) scope))
+  assign_name None line m x e scope se later pc end exit env r w lw ee st hs = assign_apart line (expr_and (name m x) no_exprs) (expr_and e no_exprs) scope later pc end exit env r w lw ee st hs
+  assign_name (Some (at_cell k)) line m x e scope se later pc end exit env r w lw ee st hs = assign_apart line (expr_and (name m x) no_exprs) (expr_and e no_exprs) scope later pc end exit env r w lw ee st hs
+  assign_name (Some (at_slot k)) line m x e scope se later pc end exit env r w lw ee st hs =
+      subst (λ y. Goes P w.ticks frames run.base run.cell_base r (going P run pc frames w r) y (Ran scope scope r) (flow_at P run end (end + exit) frames)) (single_assigned (eval again here e env w) (λ vs w. assign_all again here (name_target m x (find x env) ∷ []) vs env w))
+      (both P n w.ticks (omega (arith, lw)) frames run.base run.cell_base r _ (eval again here e env w >>> λ vs w. assign_all again here (name_target m x (find x env) ∷ []) vs env w) _ _ (λ env w. gives (normal env) w) _ _ (in_place_goes game n again inv run frames m x k e pc end scope env r w (omega (arith, lw)) se ee st hs)
+      (λ env' w t l1 t_stays h. (t, omega arith, stays_self t run.base run.cell_base, h, comes_self _)))
+
+  assign_one : (line : ℕ) (t e : Expr) (scope : Scope) → Assigns line (expr_and t no_exprs) (expr_and e no_exprs) scope (in_place (ready_slot t scope) (expr_code e file scope (slot_count scope)) (apart_code (expr_and t no_exprs) (expr_and e no_exprs) scope))
+  assign_one line (name m x) e scope = assign_name (seat_of scope x) line m x e scope refl
+  assign_one line (nil m) e scope = assign_apart line (expr_and (nil m) no_exprs) (expr_and e no_exprs) scope
+  assign_one line (true_ m) e scope = assign_apart line (expr_and (true_ m) no_exprs) (expr_and e no_exprs) scope
+  assign_one line (false_ m) e scope = assign_apart line (expr_and (false_ m) no_exprs) (expr_and e no_exprs) scope
+  assign_one line (number m z) e scope = assign_apart line (expr_and (number m z) no_exprs) (expr_and e no_exprs) scope
+  assign_one line (str m y) e scope = assign_apart line (expr_and (str m y) no_exprs) (expr_and e no_exprs) scope
+  assign_one line (dots m) e scope = assign_apart line (expr_and (dots m) no_exprs) (expr_and e no_exprs) scope
+  assign_one line (function m f) e scope = assign_apart line (expr_and (function m f) no_exprs) (expr_and e no_exprs) scope
+  assign_one line (index m a b) e scope = assign_apart line (expr_and (index m a b) no_exprs) (expr_and e no_exprs) scope
+  assign_one line (call m f es) e scope = assign_apart line (expr_and (call m f es) no_exprs) (expr_and e no_exprs) scope
+  assign_one line (method m o y es) e scope = assign_apart line (expr_and (method m o y es) no_exprs) (expr_and e no_exprs) scope
+  assign_one line (table m fs) e scope = assign_apart line (expr_and (table m fs) no_exprs) (expr_and e no_exprs) scope
+  assign_one line (unary m op a) e scope = assign_apart line (expr_and (unary m op a) no_exprs) (expr_and e no_exprs) scope
+  assign_one line (binary m op a b) e scope = assign_apart line (expr_and (binary m op a b) no_exprs) (expr_and e no_exprs) scope
+  assign_one line (paren m a) e scope = assign_apart line (expr_and (paren m a) no_exprs) (expr_and e no_exprs) scope
+
+  assign_goes : (line : ℕ) (ts es : Exprs) → Does game n again run frames (assign line ts es)
+  assign_goes line (expr_and t no_exprs) (expr_and e no_exprs) later pc end exit scope = assign_one line t e scope later pc end exit
+  assign_goes line no_exprs es later pc end exit scope = assign_apart line no_exprs es scope later pc end exit
+  assign_goes line (expr_and t (expr_and u ts)) es later pc end exit scope = assign_apart line (expr_and t (expr_and u ts)) es scope later pc end exit
+  assign_goes line (expr_and t no_exprs) no_exprs later pc end exit scope = assign_apart line (expr_and t no_exprs) no_exprs scope later pc end exit
+  assign_goes line (expr_and t no_exprs) (expr_and e (expr_and f es)) later pc end exit scope = assign_apart line (expr_and t no_exprs) (expr_and e (expr_and f es)) scope later pc end exit
 
   function_goes : (line : ℕ) (e : Expr) (f : Func) → Does game n again run frames (function_stat line e f)
   function_goes line e f later pc end exit scope env r w lw ee st hs =

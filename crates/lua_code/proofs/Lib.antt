@@ -13,10 +13,17 @@ pub mod Loops
 pub mod Counting
 pub mod Writes
 pub mod Assigning
+pub mod InPlace
 pub mod LocalFunctions
 pub mod Each
 pub mod Blocks
 pub mod Serving
 pub mod Following
 pub mod Talking
+pub mod Keeping
+pub mod Stepping
+pub mod Trees
+pub mod Protos
+pub mod Viewing
+pub mod Callers
 pub mod of_rows

@@ -139,6 +139,16 @@ stores (expr_and e es) above scope at from =
     stores es above scope (at + width e) (suc from)
     ++ store e above scope (slot at) (slot (at + 1)) (slot from)
 
+-- Where one expression is assigned to one local that stands in a slot, that slot: the expression's value goes right there,
+-- since no instruction of an expression but its last one writes where the value goes.
+abbrev pub own_slot : (targets values : Exprs) → Scope → Option ℕ
+own_slot (expr_and t no_exprs) (expr_and e no_exprs) scope = ready_slot t scope
+own_slot ts es scope = None
+
+abbrev pub in_place : Option ℕ → (there : ℕ → List Instr) → (apart : List Instr) → List Instr
+in_place None there apart = apart
+in_place (Some n) there apart = there n
+
 -- a function that stands in its local's slot gets into the local's cell too
 abbrev pub local_code : Option Seat → (from : ℕ) → List Instr
 local_code None from = []
@@ -250,6 +260,11 @@ abbrev mutual
       in_list es e (expr_code e file scope h h) (tail_code e file scope h)
       ++ exprs_code es file scope (suc h)
 
+  -- the first value of a list's first expression goes to the slot `to`
+  pub first_code : Exprs → (file : Bytes) → Scope → (h to : ℕ) → List Instr
+  first_code no_exprs file scope h to = []
+  first_code (expr_and e es) file scope h to = expr_code e file scope h to
+
   -- the fields of a table that stands in a slot; n is the position of the next item
   pub fields_code : Fields → (line n : ℕ) → (file : Bytes) → Scope → (at : ℕ) → List Instr
   fields_code no_fields line n file scope at = []
@@ -285,10 +300,11 @@ abbrev mutual
   stat_code (assign line ts es) later exit file scope =
       let at : ℕ = slot_count scope in
       let from : ℕ = at + widths ts in
-      targets_code ts file scope at
+      in_place (own_slot ts es scope) (first_code es file scope at)
+      (targets_code ts file scope at
       ++ (exprs_code es file scope from
       ++ (fitted from (target_count ts) (count es) (tailed es)
-      ++ stores ts (from + target_count ts) scope at from))
+      ++ stores ts (from + target_count ts) scope at from)))
   stat_code (local line xs es) later exit file scope =
       let at : ℕ = slot_count scope in
       exprs_code es file scope at

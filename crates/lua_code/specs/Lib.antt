@@ -1,4 +1,7 @@
 pub mod Instr
+pub mod View
+pub mod Within
+pub mod Valid
 pub mod Scope
 pub mod Code
 pub mod State
@@ -6,6 +9,9 @@ pub mod Frames
 pub mod Doing
 pub mod Natives
 pub mod Act
+pub mod Sound
+pub mod Trees
+pub mod Held
 pub mod Follows
 pub mod Talks
 pub mod rows

@@ -1,7 +1,9 @@
 //! Laws of the definitions, each the contract of a function that does nothing.
 
 ghost use Rattle.lua_code.specs.Follows.{Follows};
+ghost use Rattle.lua_code.specs.Sound.{AllKeep};
 ghost use Rattle.lua_code.specs.Talks.{AllTalk};
+ghost use Rattle.lua_code.specs.Trees.{AllSound};
 
 /// The code of a state's main function, run by the machine, comes to the end that the function
 /// means, with its asks, output, ticks and cells, for every program, list of replies and budget.
@@ -13,4 +15,14 @@ pub fn follows()
 /// to come, are those of the meaning.
 pub fn talks()
     ensures { AllTalk }
+{}
+
+/// Sound code of a sound program is never stuck, and each step goes down; it goes on from each reply.
+pub fn keeps()
+    ensures { AllKeep }
+{}
+
+/// What the code of a valid list of functions stands for is sound.
+pub fn valid_is_sound()
+    ensures { AllSound }
 {}

@@ -1,0 +1,6 @@
+pub mod View
+pub mod Made
+pub mod Constants
+pub mod Does
+pub mod Numbers
+pub mod Turns

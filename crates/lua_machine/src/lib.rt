@@ -1,0 +1,16 @@
+//! The machine that runs code of Lua.
+#![tactic(auto)]
+
+mod cells;
+mod frame;
+mod jumps;
+mod loaded;
+mod loops;
+mod machine;
+mod moves;
+mod numbers;
+mod operators;
+mod registers;
+mod tables;
+
+pub use machine::Machine;
