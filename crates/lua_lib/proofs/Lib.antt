@@ -1,0 +1,12 @@
+pub mod Cuts
+pub mod Scales
+pub mod ReadsBack
+pub mod Finding
+pub mod Copies
+pub mod Ascending
+pub mod Sorting
+pub mod MathSteps
+pub mod SignSteps
+pub mod TextSteps
+pub mod BaseSteps
+pub mod FormatSteps
