@@ -1,9 +1,17 @@
 -- The first part of a text that is a given one.
-use Rattle.std.proofs.Common.{◌≡◌, ℕ, zero, suc, ◌+◌, ◌<◌, ◌≤◌, Bool, true, false, cond, nat_eq, Option, Some, None, List, [], ◌∷◌, length, get_or, arith, ap, refl, sym, ◌∙◌, zero-add}
+use Rattle.std.proofs.Common.{◌≡◌, ℕ, zero, suc, ◌+◌, ◌-◌, ◌<◌, ◌≤◌, ℤ, Bool, true, false, not, ◌&&◌, cond, nat_eq, Option, Some, None, List, [], ◌∷◌, length, take, drop, get_or, arith, ap, refl, sym, ◌∙◌, zero-add}
 use Rattle.std.proofs.lemmas.Bool.{and_parts, and_from, eqb-true, eq-eqb, cond-true, cond-false, false_from_ne_true}
 use Rattle.std.specs.Option.{option_map}
 use Rattle.bstr.specs.Find.{FindsNeedle, OccursAt, Nowhere}
+use Rattle.std.specs.Prelude.{codes}
+use Rattle.std.proofs.lemmas.List.{take_rest}
+use Rattle.lua_meaning.specs.Value.{Value, num, str, flag}
+use Rattle.lua_meaning.specs.Store.{Store}
+use Rattle.lua_meaning.specs.Fault.{says}
+use Rattle.lua_meaning.specs.Arguments.{Answer, answers, answer, fault}
+use Rattle.lua_meaning.specs.Strings as meaning
 use Rattle.lua_meaning.specs.Strings.{begins_with, first_place}
+use Rattle.lua_lib.specs.Outcome.{Gives}
 
 -- ---- a text begins with another one
 
@@ -102,3 +110,34 @@ first_place-found p (c ∷ cs) passed (Some (suc k)) (before, at) =
       back p cs c k at,
     )
     ∙ ap (λ (n : ℕ). Some n) next)
+
+-- ---- `find`
+
+abbrev found : List ℕ → List ℕ → ℤ → Bool → Store → Answer (List Value)
+found text wanted init refused s =
+    cond refused (fault (says (codes "patterns are not available")))
+    (answer (meaning.found_places (length wanted)
+    (first_place wanted (drop (meaning.passed_over (length text) init) text) (meaning.passed_over (length text) init)))) s
+
+find-plain : (text wanted : List ℕ) (init : ℤ) (plain : Bool) (place : Option ℕ) → (meaning.is_pattern wanted && not plain) ≡ false →
+    first_place wanted (drop (meaning.passed_over (length text) init) text) (meaning.passed_over (length text) init) ≡ place →
+    Gives (meaning.find (str text ∷ str wanted ∷ num init ∷ flag plain ∷ [])) (meaning.found_places (length wanted) place)
+find-plain text wanted init plain place e h = λ s.
+    ap (λ (refused : Bool). found text wanted init refused s) e
+    ∙ ap (λ (p : Option ℕ). answers (meaning.found_places (length wanted) p) s) h
+
+pub find-found : (text wanted : List ℕ) (init : ℤ) (plain : Bool) (p : ℕ) (r : Option ℕ) → (meaning.is_pattern wanted && not plain) ≡ false →
+    p ≡ meaning.passed_over (length text) init → FindsNeedle (take (length text - p) (drop p text)) wanted 0 r →
+    Gives (meaning.find (str text ∷ str wanted ∷ num init ∷ flag plain ∷ [])) (meaning.found_places (length wanted) (option_map (λ k. p + k + 1) r))
+find-found text wanted init plain p r e same h =
+    find-plain text wanted init plain (option_map (λ k. p + k + 1) r) e
+    (ap (λ (m : ℕ). first_place wanted (drop m text) m) (sym same)
+    ∙ (ap (λ (l : List ℕ). first_place wanted l p) (sym (take_rest text p)) ∙ first_place-found wanted (take (length text - p) (drop p text)) p r h))
+
+-- a text that stands for itself: it has no byte of a pattern, or is meant plainly
+pub no_pattern : (p plain : Bool) → p ≡ false → (p && not plain) ≡ false
+no_pattern p plain e = ap (λ (b : Bool). b && not plain) e
+
+pub meant_plain : (p plain : Bool) → plain ≡ true → (p && not plain) ≡ false
+meant_plain true plain e = ap not e
+meant_plain false plain e = refl

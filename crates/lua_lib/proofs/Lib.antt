@@ -2,11 +2,9 @@ pub mod Cuts
 pub mod Scales
 pub mod ReadsBack
 pub mod Finding
+pub mod Patterns
 pub mod Copies
 pub mod Ascending
 pub mod Sorting
-pub mod MathSteps
-pub mod SignSteps
-pub mod TextSteps
-pub mod BaseSteps
-pub mod FormatSteps
+pub mod BaseDigits
+pub mod Selecting

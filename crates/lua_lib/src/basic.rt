@@ -1,6 +1,6 @@
 //! Basic functions (Lua 5.1 manual §5.1).
 
-ghost use Rattle.std.specs.Prelude.{◌≡◌, ◌≤◌, [], ◌∷◌, map, IfOk, IfErr};
+ghost use Rattle.std.specs.Prelude.{◌≡◌, ◌≤◌, [], ◌∷◌, map, pos, Some, IfOk, IfErr};
 ghost use Rattle.std.specs.Option.{option_and_then};
 ghost use Rattle.lua_meaning.specs.Value.{Value, num, str};
 ghost use Rattle.lua_meaning.specs.Basic as meaning;
@@ -67,7 +67,7 @@ pub fn tonumber(text: &[u8], base: Num) -> Result<Option<Num>, Fault>
 }
 
 // The number that a text stands for where a number is wanted.
-fn read(text: &[u8]) -> Option<Num>
+pub(crate) fn read(text: &[u8]) -> Option<Num>
     ensures { result ≡ numbers.read text.now }
 {
     Num::read(text)
@@ -96,13 +96,19 @@ fn digits_number(base: u32, digits: &[u8]) -> Option<Num>
         let Some(digit) = char::from(*byte).to_digit(base) else {
             return None;
         };
-        number = number
-            .saturating_mul(u64::from(base))
-            .saturating_add(u64::from(digit));
+        number = number * u64::from(base) + u64::from(digit);
         if number > GREATEST {
             return None;
         }
     }
+    natural(number)
+}
+
+// A natural number of the range.
+fn natural(number: u64) -> Option<Num>
+    requires { number ≤ 99999999999999 }
+    ensures { result ≡ Some (pos number) }
+{
     Num::new(number as i64)
 }
 

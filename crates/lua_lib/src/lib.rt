@@ -5,6 +5,7 @@ pub mod basic;
 mod blanks;
 mod fault;
 pub mod format;
+pub mod laws;
 pub mod math;
 mod signed;
 pub mod strings;

@@ -4,7 +4,6 @@
 ghost use Rattle.std.specs.Prelude.{◌≡◌, ◌≤◌, [], ◌∷◌, map, reverse, length, codes, IfOk, IfErr};
 ghost use Rattle.lua_meaning.specs.Value.{num, str, flag};
 ghost use Rattle.lua_meaning.specs.Text.{longest_string};
-ghost use Rattle.lua_meaning.specs.Basic.{number_value};
 ghost use Rattle.lua_meaning.specs.Strings as meaning;
 ghost use Rattle.lua_lib.specs.Outcome.{Gives};
 ghost use Rattle.lua_lib.specs.Faults.{FailsBy};
@@ -49,20 +48,19 @@ pub fn sub(text: &[u8], i: Num, j: Num) -> &[u8]
     part(text, place_in(text.len(), i), place_in(text.len(), j))
 }
 
-/// `string.byte(text, i, j)`: the bytes at `i` to `j`, or the one at `i`.
+/// `string.byte(text, i, j)`: the bytes at `i` to `j`.
 ///
 /// # Errors
 ///
 /// [`Fault::TooManyValues`] where there are over 1,000,000.
-pub fn byte(text: &[u8], i: Num, j: Option<Num>) -> Result<&[u8], Fault>
+pub fn byte(text: &[u8], i: Num, j: Num) -> Result<&[u8], Fault>
     ensures ok { IfOk result (λ bytes.
-        Gives (meaning.byte (str text.now ∷ num i ∷ number_value j ∷ []))
+        Gives (meaning.byte (str text.now ∷ num i ∷ num j ∷ []))
         (map meaning.byte_value bytes.now)) }
     ensures fault { IfErr result
-        (FailsBy (meaning.byte (str text.now ∷ num i ∷ number_value j ∷ []))) }
+        (FailsBy (meaning.byte (str text.now ∷ num i ∷ num j ∷ []))) }
 {
-    let last = j.unwrap_or(i);
-    let bytes = part(text, place_in(text.len(), i), place_in(text.len(), last));
+    let bytes = part(text, place_in(text.len(), i), place_in(text.len(), j));
     if bytes.len() > 1_000_000 {
         return Err(Fault::TooManyValues);
     }

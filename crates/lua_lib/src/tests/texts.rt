@@ -30,18 +30,18 @@ fn parts(rt: HostRuntime) -> Result<(), Fail> {
 
 #[test]
 fn bytes(rt: HostRuntime) -> Result<(), Fail> {
-    let rows: [(i64, Option<i64>, &[u8]); 7] = [
-        (1, None, b"h"),
-        (-1, None, b"o"),
-        (2, Some(3), b"el"),
-        (0, None, b""),
-        (9, None, b""),
-        (-2, Some(99), b"lo"),
-        (GREATEST, None, b""),
+    let rows: [(i64, i64, &[u8]); 7] = [
+        (1, 1, b"h"),
+        (-1, -1, b"o"),
+        (2, 3, b"el"),
+        (0, 0, b""),
+        (9, 9, b""),
+        (-2, 99, b"lo"),
+        (GREATEST, GREATEST, b""),
     ];
     for (i, j, part) in rows {
-        let found = strings::byte(b"hello", num(i)?, j.and_then(Num::new));
-        assert_eq!(rt; found, Ok(part), "{i}, {j:?}");
+        let found = strings::byte(b"hello", num(i)?, num(j)?);
+        assert_eq!(rt; found, Ok(part), "{i}, {j}");
     }
     Ok(())
 }
@@ -49,9 +49,9 @@ fn bytes(rt: HostRuntime) -> Result<(), Fail> {
 #[test]
 fn too_many_bytes(rt: HostRuntime) -> Result<(), Fail> {
     let text = strings::rep(rt.alloc(), b"x", num(1_000_001)?).map_err(|_| "no room")?;
-    let found = strings::byte(&text, num(1)?, Num::new(-1)).map(|part| part.len());
+    let found = strings::byte(&text, num(1)?, num(-1)?).map(|part| part.len());
     assert_eq!(rt; found, Err(Fault::TooManyValues));
-    let found = strings::byte(&text, num(2)?, Num::new(-1)).map(|part| part.len());
+    let found = strings::byte(&text, num(2)?, num(-1)?).map(|part| part.len());
     assert_eq!(rt; found, Ok(1_000_000));
     Ok(())
 }
