@@ -6,10 +6,9 @@ use Rattle.std.proofs.lemmas.Int.Digits.{digits_value_more}
 use Rattle.std.specs.Char.{digit_value}
 use Rattle.std.specs.Option.{option_and_then}
 use Rattle.std.specs.Str.Parse.{AllDigits, digits_value}
-use Rattle.lua_value.specs.Num.{IsNum}
 use Rattle.lua_value.proofs.DigitLemmas.{digits_value-append}
 use Rattle.lua_meaning.specs.Number.{kept, are_some_digits, digits_number}
-use Rattle.lua_lib.proofs.Scales.{kept-num, are_some-parts, digits_number-some}
+use Rattle.lua_lib.proofs.Scales.{are_some-parts, digits_number-some}
 
 none_without : (base : ℕ) (ds : List ℕ) → are_some_digits base ds ≡ false → None ≡ option_and_then kept (digits_number base ds)
 none_without base ds e =
@@ -48,8 +47,6 @@ none-over base ds i n h e over = from (are_some_digits base ds) refl
     from false p = refl
 
 pub digits-kept : (base : ℕ) (ds : List ℕ) (r : Option ℤ) (n : ℕ) → length ds ≢ 0 → AllDigits base ds → n ≡ digits_value base ds →
-    n ≤ 99999999999999 → r ≡ Some (pos n) → r ≡ option_and_then kept (digits_number base ds)
-digits-kept base ds r n some all e small is =
-    let in_range : IsNum (pos (digits_value base ds)) = omega arith in
-    is ∙ (ap (λ (m : ℕ). Some (pos m)) e ∙ (sym (kept-num (pos (digits_value base ds)) in_range)
-    ∙ ap (option_and_then kept) (sym (digits_number-some base ds (omega arith) all))))
+    r ≡ kept (pos n) → r ≡ option_and_then kept (digits_number base ds)
+digits-kept base ds r n some all e is =
+    is ∙ (ap (λ (m : ℕ). kept (pos m)) e ∙ ap (option_and_then kept) (sym (digits_number-some base ds (omega arith) all)))

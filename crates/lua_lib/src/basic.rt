@@ -1,6 +1,6 @@
 //! Basic functions (Lua 5.1 manual §5.1).
 
-ghost use Rattle.std.specs.Prelude.{◌≡◌, ◌≤◌, [], ◌∷◌, map, pos, Some, IfOk, IfErr};
+ghost use Rattle.std.specs.Prelude.{◌≡◌, ◌≤◌, [], ◌∷◌, map, IfOk, IfErr};
 ghost use Rattle.std.specs.Option.{option_and_then};
 ghost use Rattle.lua_meaning.specs.Value.{Value, num, str};
 ghost use Rattle.lua_meaning.specs.Basic as meaning;
@@ -11,11 +11,8 @@ ghost use Rattle.lua_lib.specs.Faults.{FailsBy};
 
 use crate::Fault;
 use crate::blanks::trimmed;
-use crate::signed::{Signed, split_sign};
+use crate::signed::{GREATEST, Signed, natural, split_sign};
 use lua_value::Num;
-
-// The greatest number.
-const GREATEST: u64 = 99_999_999_999_999;
 
 /// `select(n, ...)`: the arguments behind `n`, from the n-th on, or from the n-th counted from the
 /// end where `n` is negative.
@@ -102,14 +99,6 @@ fn digits_number(base: u32, digits: &[u8]) -> Option<Num>
         }
     }
     natural(number)
-}
-
-// A natural number of the range.
-fn natural(number: u64) -> Option<Num>
-    requires { number ≤ 99999999999999 }
-    ensures { result ≡ Some (pos number) }
-{
-    Num::new(number as i64)
 }
 
 /// How many values `unpack` gives of a table's values at `i` to `j`.

@@ -1,18 +1,37 @@
 use crate::Fault;
-use crate::format::{Directive, put_hexadecimal, put_padded, put_whole, read_directive};
+use crate::format::{Directive, Item, put_hexadecimal, put_padded, put_whole, read_directive};
 use lua_value::Num;
 use std::alloc::Global;
 use std::test::Fail;
 
+// Puts what an item with a letter writes of a number, or of a text.
+fn put_item(
+    alloc: Global,
+    made: &mut Vec<u8>,
+    item: Item,
+    letter: u8,
+    number: Num,
+    text: &[u8],
+) -> Result<(), Fault> {
+    match letter {
+        b'd' => put_whole(made, item, number)?,
+        b's' => put_padded(made, item, text)?,
+        _ => put_hexadecimal(alloc, made, item, letter == b'X', 1, number)?,
+    }
+    Ok(())
+}
+
 // What an item without its `%` writes of a number, or of a text.
 fn written(alloc: Global, item: &[u8], number: Num, text: &[u8]) -> Result<Vec<u8>, Fault> {
     let mut made = Vec::new(alloc);
-    match read_directive(item)?.0 {
+    let directive = match read_directive(item) {
+        Ok((directive, _)) => directive,
+        Err(fault) => return Err(fault),
+    };
+    match directive {
         Directive::Percent => made.push(b'%')?,
-        Directive::Converts(item, b'd') => put_whole(&mut made, item, number)?,
-        Directive::Converts(item, b's') => put_padded(&mut made, item, text)?,
         Directive::Converts(item, letter) => {
-            put_hexadecimal(alloc, &mut made, item, letter == b'X', 1, number)?
+            put_item(alloc, &mut made, item, letter, number, text)?
         }
     }
     Ok(made)
@@ -81,6 +100,22 @@ fn faults(rt: HostRuntime) -> Result<(), Fail> {
     Ok(())
 }
 
+// Whether it is an item with this letter, or for `None` a second `%`.
+fn is_letter(directive: Directive, letter: Option<u8>) -> bool {
+    match directive {
+        Directive::Percent => letter.is_none(),
+        Directive::Converts(_, found) => letter == Some(found),
+    }
+}
+
+// Whether a text is such an item and this rest.
+fn has_letter(text: &[u8], letter: Option<u8>, rest: &[u8]) -> bool {
+    match read_directive(text) {
+        Ok((directive, behind)) => is_letter(directive, letter) && behind == rest,
+        Err(_) => false,
+    }
+}
+
 #[test]
 fn letters(rt: HostRuntime) {
     let rows: [(&[u8], Option<u8>, &[u8]); 5] = [
@@ -91,14 +126,6 @@ fn letters(rt: HostRuntime) {
         (b"%%", None, b"%"),
     ];
     for (text, letter, rest) in rows {
-        let found = read_directive(text).map(|(read, rest)| (letter_of(read), rest));
-        assert_eq!(rt; found, Ok((letter, rest)), "{text:?}");
-    }
-}
-
-fn letter_of(directive: Directive) -> Option<u8> {
-    match directive {
-        Directive::Percent => None,
-        Directive::Converts(_, letter) => Some(letter),
+        assert!(rt; has_letter(text, letter, rest), "{text:?}");
     }
 }

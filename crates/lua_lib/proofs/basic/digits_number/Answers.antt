@@ -45,4 +45,4 @@ returns c =
     let whole : take c.loop-byte.byte-index digits ≡ digits = take_all c.loop-byte.byte-index digits (omega arith) in
     let all = rw whole at c.loop-byte.invariant.all in
     let number : c.loop-byte.number ≡ digits_value base digits = c.loop-byte.invariant.number ∙ ap (λ (ds : List ℕ). digits_value base ds) whole in
-    digits-kept base digits c.natural.result c.loop-byte.number (search rules) all number c.loop-byte.invariant.small c.natural.ensures
+    digits-kept base digits c.natural.result c.loop-byte.number (search rules) all number c.natural.ensures
