@@ -1,5 +1,5 @@
 -- Copies of a text, one more at the end.
-use Rattle.std.proofs.Common.{◌≡◌, ℕ, zero, suc, List, [], ◌∷◌, ◌++◌, ap, refl, sym, ◌∙◌, append_assoc, append-nil}
+use Rattle.std.proofs.Common.{◌≡◌, ℕ, zero, suc, List, ◌++◌, ap, sym, ◌∙◌, append_assoc, append-nil}
 use Rattle.lua_meaning.specs.Strings.{copies}
 
 pub copies-more : (n : ℕ) (s : List ℕ) → copies n s ++ s ≡ copies (suc n) s

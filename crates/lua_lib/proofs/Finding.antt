@@ -2,7 +2,7 @@
 use Rattle.std.proofs.Common.{◌≡◌, ℕ, zero, suc, ◌+◌, ◌-◌, ◌<◌, ◌≤◌, ℤ, Bool, true, false, not, ◌&&◌, cond, nat_eq, Option, Some, None, List, [], ◌∷◌, length, take, drop, get_or, arith, ap, refl, sym, ◌∙◌, zero-add}
 use Rattle.std.proofs.lemmas.Bool.{and_parts, and_from, eqb-true, eq-eqb, cond-true, cond-false, false_from_ne_true}
 use Rattle.std.specs.Option.{option_map}
-use Rattle.bstr.specs.Find.{FindsNeedle, OccursAt, Nowhere}
+use Rattle.bstr.specs.Find.{FindsNeedle, OccursAt}
 use Rattle.std.specs.Prelude.{codes}
 use Rattle.std.proofs.lemmas.List.{take_rest}
 use Rattle.lua_meaning.specs.Value.{Value, num, str, flag}

@@ -1,5 +1,5 @@
 -- `read` gives the number that a text is read as.
-use Rattle.std.proofs.Common.{◌≡◌, ◌≢◌, ℕ, ◌+◌, ◌^◌, ◌≤◌, ◌<◌, ◌⊎◌, inl, inr, ◌↔◌, ℤ, pos, negsuc, zero, suc, ◌+ℤ◌, neg_ℤ, unsigned_abs, Bool, true, false, cond, ◌&&◌, ◌||◌, nat_eq, Option, Some, None, List, [], ◌∷◌, ◌++◌, length, arith, ap, refl, sym, ◌∙◌, subst, length-append, append-nil, append_assoc}
+use Rattle.std.proofs.Common.{◌≡◌, ℕ, ◌<◌, ◌⊎◌, inl, inr, ◌↔◌, ℤ, pos, negsuc, zero, suc, ◌+ℤ◌, neg_ℤ, unsigned_abs, Bool, true, false, cond, ◌||◌, nat_eq, Option, Some, None, List, [], ◌∷◌, ◌++◌, length, arith, ap, refl, sym, ◌∙◌, subst, append-nil, append_assoc}
 use Rattle.std.proofs.lemmas.Bool.{ne_eqb, eqb-true, and_parts, or_cases, or_from, cond-true, cond-false, false_from_ne_true}
 use Rattle.std.proofs.lemmas.Int.Digits.{digits_value-lt}
 use Rattle.std.proofs.lemmas.Str.Parse.{digit_from_value}
@@ -11,7 +11,7 @@ use Rattle.lua_value.specs.Sign.{Sign, sign_text, signed}
 use Rattle.lua_value.specs.Sign.Sign.{unsigned, plus, minus}
 use Rattle.lua_value.specs.Numeral.{Numeral, Exponent, fraction_digits, fraction_text, exponent_text, exponent_value, numeral_text, IsOptionalExponent, IsWellFormed, HasValue, Denotes}
 use Rattle.lua_value.specs.Numeral.Numeral.{hexadecimal, decimal}
-use Rattle.lua_value.specs.NumberText.{DenotesSigned, ReadsAs}
+use Rattle.lua_value.specs.NumberText.{ReadsAs}
 use Rattle.lua_value.proofs.DigitLemmas.{AllDigits-append}
 use Rattle.lua_value.proofs.Reading.{digits_have_no_sign, hexadecimal_only}
 use Rattle.lua_value.proofs.Words.{word_of, Denotes-no_sign}

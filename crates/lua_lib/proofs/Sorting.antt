@@ -1,5 +1,5 @@
 -- What a sort of numbers and of texts makes is what `sorted` gives.
-use Rattle.std.proofs.Common.{◌≡◌, ◌≢◌, ℕ, suc, ◌+◌, ◌<◌, ◌≤◌, ◌⊎◌, inl, inr, ℤ, pos, negsuc, Bool, true, false, not, cond, nat_eq, nat_lt, List, [], ◌∷◌, length, get_or, map, Bor, arith, ap, refl, sym, ◌∙◌, subst, add-one}
+use Rattle.std.proofs.Common.{◌≡◌, ◌≢◌, ℕ, suc, ◌<◌, ◌⊎◌, inl, inr, ℤ, pos, negsuc, Bool, true, false, not, cond, nat_eq, nat_lt, List, [], ◌∷◌, length, get_or, map, Bor, arith, ap, refl, sym, ◌∙◌, add-one}
 use Rattle.std.proofs.lemmas.Bool.{eqb-true, eqb-false, eq-eqb, ne_eqb, lt-ltb, ltb-true, ltb-false, leb-true, leb-false, le-leb, cond-true, cond-false, not-false}
 use Rattle.std.proofs.lemmas.Bool.Decides.{nat_tests}
 use Rattle.std.proofs.lemmas.Cmp.{same_from_slice_cmp}
@@ -11,7 +11,7 @@ use Rattle.std.specs.Ordering.{nat_cmp, int_cmp, is_lt}
 use Rattle.std.specs.declared.cmp.Ordering.TheVariants.{Less, Equal, Greater}
 use Rattle.std.specs.Prelude.{int_le, int_lt}
 use Rattle.lua_meaning.specs.Value.{Value, num, str}
-use Rattle.lua_meaning.specs.Tables.{is_text_up_to, is_up_to, placed_among, sorted}
+use Rattle.lua_meaning.specs.Tables.{is_text_up_to, placed_among, sorted}
 use Rattle.lua_lib.proofs.Ascending.{placed, in_order, ascends_from, is_in_order}
 
 -- ---- the order of numbers

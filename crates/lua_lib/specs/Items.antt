@@ -4,7 +4,7 @@ use Rattle.lua_tree.specs.Tree.{Bytes}
 use Rattle.lua_meaning.specs.Value.{Value}
 use Rattle.lua_meaning.specs.Store.{Store}
 use Rattle.lua_meaning.specs.Arguments.{Lib, ◌>>=◌, answer}
-use Rattle.lua_meaning.specs.Format.{Item, plain_item, text_from, item_from, converted}
+use Rattle.lua_meaning.specs.Format.{plain_item, text_from, item_from, converted}
 use Rattle.lua_lib.specs.declared.format.reading.Directive.{Directive}
 use Rattle.lua_lib.specs.declared.format.reading.Directive.TheVariants.{Percent, Converts}
 

@@ -2,7 +2,7 @@ use Rattle.std.proofs.Common.{◌≡◌, ℕ, ◌+◌, ◌<◌, List, take, get_
 use Rattle.std.proofs.lemmas.List.{take_all}
 use Rattle.std.proofs.lemmas.Int.Digits.{digits_more}
 use Rattle.std.specs.Char.{digit_value}
-use Rattle.std.specs.Str.Parse.{AllDigits, digits_value}
+use Rattle.std.specs.Str.Parse.{digits_value}
 use Rattle.lua_value.proofs.DigitLemmas.{AllDigits-at}
 use Rattle.lua_lib.proofs.BaseDigits.{none-other, none-over, digits-next, digits-kept}
 use Rattle.lua_lib.proofs.basic.digits_number.Goals as goal

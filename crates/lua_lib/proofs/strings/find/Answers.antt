@@ -1,4 +1,4 @@
-use Rattle.std.proofs.Common.{◌≡◌, Bool, true, false, not, ◌&&◌, Some, None}
+use Rattle.std.proofs.Common.{◌≡◌, false, not, ◌&&◌, Some, None}
 use Rattle.lua_meaning.specs.Strings.{is_pattern}
 use Rattle.lua_lib.proofs.Finding.{find-found, no_pattern, meant_plain}
 use Rattle.lua_lib.proofs.strings.find.Goals as goal
