@@ -1,5 +1,5 @@
-//! What `string.format` reads and writes (Lua 5.1 manual §5.4): the items `%d %s %x %X %c %%` with the
-//! flags `-` and `0` and a width of at most two digits.
+//! What `string.format` reads and writes (Lua 5.1 manual §5.4): the items `%d %s %x %X %c %%` with
+//! the flags `-` and `0` and a width of at most two digits.
 
 mod items;
 mod reading;
