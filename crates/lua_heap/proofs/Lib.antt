@@ -4,4 +4,5 @@ pub mod NativeLemmas
 pub mod ValueLemmas
 pub mod HeapLemmas
 pub mod IndexLemmas
+pub mod NextLemmas
 pub mod Callers

@@ -6,4 +6,5 @@ pub mod Value
 pub mod Raw
 pub mod Heap
 pub mod Index
+pub mod Next
 pub mod Library

@@ -13,6 +13,7 @@ mod raw;
 mod tests;
 mod texts;
 mod value;
+mod walk;
 
 pub use heap::Heap;
 pub use id::{CellId, DataId, FuncId, StrId, TableId};

@@ -1,3 +1,5 @@
+mod walks;
+
 use crate::{Heap, Lookup, Native, Store, Value};
 use love_base::{ChannelNo, Data, Memory, Text};
 use lua_value::Num;

@@ -1,0 +1,10 @@
+pub mod Cuts
+pub mod Scales
+pub mod ReadsBack
+pub mod Finding
+pub mod Patterns
+pub mod Copies
+pub mod Ascending
+pub mod Sorting
+pub mod BaseDigits
+pub mod Selecting

@@ -1,0 +1,6 @@
+//! Values of lua5.1 where this project has them too, and those worked out by hand.
+
+mod formats;
+mod numbers;
+mod sorts;
+mod texts;
