@@ -94,7 +94,7 @@ def own_proofs(file):
             item = item.replace(f"{kind}-{stem}::{function}-{goal}", f"{kind}-{goal}")
         else:
             item = item.replace(f"{stem}::{function}-", "")
-            item = re.sub(rf"^{re.escape(goal)} t c\b", f"{goal} c", item, flags=re.M)
+            item = re.sub(rf"^{re.escape(goal)} rank c\b", f"{goal} c", item, flags=re.M)
         found.setdefault((stem, function), []).append(item)
     for (stem, function), those in found.items():
         mine = head.replace("proofs.+grammar.", f"proofs.{stem}.{function}.")

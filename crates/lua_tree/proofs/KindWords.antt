@@ -104,9 +104,9 @@ return_goes l c s (Some (kinds.Number z)) v e h = by_word (λ (v : Word). return
 return_goes l c s (Some kinds.Str) v e h = by_word (λ (v : Word). return_rest_of l c v s) v _ _ e.1 refl
 return_goes l c s (Some k) v e h = by_word (λ (v : Word). return_rest_of l c v s) v _ _ e refl
 
--- a last statement that is no `break` is a `return`
-pub is_return : (o : Option Kind) → begins_last o ≡ true → (o ≡ Some kinds.Break → ⊥) → o ≡ Some kinds.Return
-is_return None h n = absurd (false≢true h)
-is_return (Some kinds.Return) h n = refl
-is_return (Some kinds.Break) h n = absurd (n refl)
-is_return (Some k) h n = absurd (false≢true h)
+-- a last statement that is no `return` is a `break`
+pub is_break : (o : Option Kind) → begins_last o ≡ true → (o ≡ Some kinds.Return → ⊥) → o ≡ Some kinds.Break
+is_break None h n = absurd (false≢true h)
+is_break (Some kinds.Return) h n = absurd (n refl)
+is_break (Some kinds.Break) h n = refl
+is_break (Some k) h n = absurd (false≢true h)

@@ -195,10 +195,10 @@ fn last_statement(source: &Source, at: usize, scope: Scope) -> Result<Read<Stat>
     ensures answer { OfWords source.now
         (Answers stat_view (program (last (counts scope))) at result) }
 {
-    if source.is(at, Kind::Break) {
-        break_statement(source, at, scope)
-    } else {
+    if source.is(at, Kind::Return) {
         return_statement(source, at, scope)
+    } else {
+        break_statement(source, at, scope)
     }
 }
 
