@@ -4,3 +4,4 @@ pub mod Constants
 pub mod Does
 pub mod Numbers
 pub mod Turns
+pub mod Frames

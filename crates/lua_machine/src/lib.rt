@@ -1,6 +1,7 @@
 //! The machine that runs code of Lua.
 #![tactic(auto)]
 
+mod calls;
 mod cells;
 mod frame;
 mod jumps;
