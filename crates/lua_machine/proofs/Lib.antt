@@ -1,3 +1,5 @@
 pub mod Doing
 pub mod Turning
 pub mod Waiting
+pub mod Leaving
+pub mod Filling

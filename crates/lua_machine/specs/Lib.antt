@@ -5,3 +5,5 @@ pub mod Does
 pub mod Numbers
 pub mod Turns
 pub mod Frames
+pub mod Results
+pub mod Entering

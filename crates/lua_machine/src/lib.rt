@@ -3,6 +3,7 @@
 
 mod calls;
 mod cells;
+mod entering;
 mod frame;
 mod jumps;
 mod loaded;
@@ -12,6 +13,8 @@ mod moves;
 mod numbers;
 mod operators;
 mod registers;
+mod results;
 mod tables;
+mod truth;
 
 pub use machine::Machine;
