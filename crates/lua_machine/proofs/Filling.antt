@@ -56,3 +56,12 @@ args_put s at (suc n) (suc count) =
     ∙ args_put s (suc at) n count
     ∙ ap (λ k. filled s k (n - count)) (let e : suc at + count ≡ at + suc count = omega arith in e)
     ∙ ap (filled s (at + suc count)) (let e : n - count ≡ suc n - suc count = omega arith in e)
+
+-- one more slot is nil
+pub fill_step : (texts : List Bytes) (xs old : List Value) (from at : ℕ) → at < length xs → from ≤ at → slots_view texts xs ≡ filled (slots_view texts old) from (at - from) → slots_view texts (set xs at Nil) ≡ filled (slots_view texts old) from (at + 1 - from)
+fill_step texts xs old from at lt le e =
+    sym (slots_set texts xs at Nil lt)
+    ∙ ap (λ s. put s at meant.nil) e
+    ∙ ap (λ k. put (filled (slots_view texts old) from (at - from)) k meant.nil) (let e : at ≡ from + (at - from) = omega (arith, le) in e)
+    ∙ filled_last (slots_view texts old) from (at - from)
+    ∙ ap (filled (slots_view texts old) from) (let e : suc (at - from) ≡ at + 1 - from = omega (arith, le) in e)

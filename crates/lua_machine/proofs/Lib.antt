@@ -3,3 +3,4 @@ pub mod Turning
 pub mod Waiting
 pub mod Leaving
 pub mod Filling
+pub mod CellLists
