@@ -2,5 +2,3 @@ pub mod Doing
 pub mod Turning
 pub mod Waiting
 pub mod Leaving
-pub mod Filling
-pub mod CellLists
