@@ -1,25 +1,25 @@
 -- One local that stands in a slot gets its value in place.
-use Rattle.std.proofs.Common.{ℕ, suc, ◌+◌, ◌≡◌, ◌≤◌, ◌<◌, refl, sym, ap, ◌∙◌, subst, List, [], ◌∷◌, length, Option, Some, None, Bool, true, false, arith}
+use Rattle.std.proofs.Common.{ℕ, ◌+◌, ◌≡◌, ◌≤◌, refl, sym, ◌∙◌, subst, List, [], ◌∷◌, length, Option, Some, None, Bool, true, false, arith}
 use Rattle.std.specs.Prelude.{◌==◌}
 use Rattle.std.proofs.lemmas.Bool.{eqb-true}
 use Rattle.lua_tree.specs.Tree.{Bytes, Expr}
 use Rattle.lua_meaning.specs.Value.{Value, first}
-use Rattle.lua_meaning.specs.World.{World, gives, ◌>>>◌}
-use Rattle.lua_meaning.specs.Locals.{Env, Slot, held, cell, Flow, normal, holding, find, set_found}
+use Rattle.lua_meaning.specs.World.{World, ◌>>>◌}
+use Rattle.lua_meaning.specs.Locals.{Env, Slot, held, cell, holding, find, set_found}
 use Rattle.lua_meaning.specs.Calls.{Later, Here}
 use Rattle.lua_meaning.specs.Control.{Game}
 use Rattle.lua_meaning.specs.Expressions.{eval}
 use Rattle.lua_meaning.specs.Statements.{name_target, assign_all}
 use Rattle.lua_code.specs.Instr.{Instr, file_of, code_of}
 use Rattle.lua_code.specs.Scope.{Scope, slot_count, cell_count, at_slot, seat_of}
-use Rattle.lua_code.specs.Code.{is_many, expr_code}
+use Rattle.lua_code.specs.Code.{expr_code}
 use Rattle.lua_code.specs.State.{Registers, put_slot, Running, Frame}
 use Rattle.lua_code.specs.Natives.{Program}
 use Rattle.lua_code.specs.Follows.{program_of}
 use Rattle.lua_code.proofs.Registers.{Stays, stays_self, put_same, put_other, Holds, holds_stays, Reads, reads}
 use Rattle.lua_code.proofs.Goes.{comes_self, Stands, going, Goes, both}
 use Rattle.lua_code.proofs.Calling.{Invokes}
-use Rattle.lua_code.proofs.Landing.{here_of, Got, LoneIf}
+use Rattle.lua_code.proofs.Landing.{here_of, Got}
 use Rattle.lua_code.proofs.Nodes.{expr_goes}
 use Rattle.lua_code.proofs.Scopes.{Unmoved, unmoved_below, unmoved_on}
 use Rattle.lua_code.proofs.Writes.{Written, writes}

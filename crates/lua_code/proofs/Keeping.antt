@@ -1,14 +1,13 @@
 -- Sound code is never stuck, stays inside, and goes down with each step.
-use Rattle.std.proofs.Common.{ℕ, zero, suc, ◌+◌, ◌-◌, ◌≡◌, ◌≤◌, ◌<◌, refl, sym, ap, subst, List, [], ◌∷◌, ◌++◌, length, Option, Some, None, Bool, true, false, Result, Ok, Err, arith}
-use Rattle.std.specs.Prelude.{◌*◌, ◌^◌, ℤ, if◌then◌else◌, drop, slice_get, codes, pos, nat_eq, bytes_eq}
+use Rattle.std.proofs.Common.{ℕ, zero, suc, ◌+◌, ◌≡◌, ◌≤◌, ◌<◌, refl, subst, List, [], ◌∷◌, ◌++◌, length, Option, Some, None, Bool, true, false, Result, Ok, Err, arith}
+use Rattle.std.specs.Prelude.{◌*◌, ◌^◌, if◌then◌else◌, drop, slice_get, codes, pos, nat_eq, bytes_eq}
 use Rattle.std.specs.List.{AllByRecursion}
 use Rattle.std.proofs.lemmas.Option.{none-some, same_Some}
 use Rattle.love_base.specs.Data.{Contents}
-use Rattle.lua_value.specs.declared.arithmetic.NumFault.{NumFault}
 use Rattle.lua_tree.specs.Tree.{Bytes}
 use Rattle.lua_meaning.specs.Native.{Native}
-use Rattle.lua_meaning.specs.Value.{Value, nil, str, table, func, native, num, channel, first, is_true, is_nil}
-use Rattle.lua_meaning.specs.Text.{as_text, as_number}
+use Rattle.lua_meaning.specs.Value.{Value, nil, str, func, native, num, channel, first}
+use Rattle.lua_meaning.specs.Text.{as_text}
 use Rattle.lua_meaning.specs.Store.{Store, handler}
 use Rattle.lua_meaning.specs.Message.{Message, Source, Event, Ask, Reply}
 use Rattle.lua_meaning.specs.Packing.{PackFault, pack, pack_all}
@@ -18,19 +17,14 @@ use Rattle.lua_meaning.specs.LoveArguments.{channel_argument, thread_argument, l
 use Rattle.lua_meaning.specs.Strings.{string_value}
 use Rattle.lua_meaning.specs.Data.{new_data}
 use Rattle.lua_meaning.specs.Control.{found_module, love_module, error_value, level_place}
-use Rattle.lua_meaning.specs.Handlers as handlers
 use Rattle.lua_meaning.specs.Library.{library as library_function}
 use Rattle.lua_meaning.specs.Love.{is_code, file_data_in}
-use Rattle.lua_code.specs.Instr as i
-use Rattle.lua_code.specs.Instr.{Site, Wants, Instr, Instrs, no_instrs, instr_and, Proto, proto_of, list_of, code_of}
-use Rattle.lua_code.specs.State.{Registers, State, Made, Running, Duty, tries, converts, prints, requires, guards, Frame, waits, serves, Active, lua, library, Config, Errand, gives_values, awaits, gives_waited, enters, comes_out, gives_true, clears, Pending, Step, on, stop, asks}
-use Rattle.lua_code.specs.Frames.{Callee, runs, built_in, callee_made, callee_of, with_args, called, ticking, begun, entering, entering_called, calling_with, calling, by_text, printing, printed, serving, finish, raised, has_room, places, keep_module}
-use Rattle.lua_code.specs.Doing as doing
-use Rattle.lua_code.specs.Doing.{Doing}
+use Rattle.lua_code.specs.Instr.{Instr, Instrs, no_instrs, instr_and, Proto, proto_of, list_of, code_of}
+use Rattle.lua_code.specs.State.{Registers, State, Made, Duty, tries, converts, prints, requires, guards, Frame, waits, serves, Errand, gives_values, awaits, gives_waited, enters, comes_out, gives_true, clears, Step, on, stop, asks}
+use Rattle.lua_code.specs.Frames.{Callee, runs, built_in, callee_made, callee_of, with_args, called, ticking, begun, entering, entering_called, calling_with, by_text, printing, printed, serving, finish, raised, has_room, places, keep_module}
 use Rattle.lua_code.specs.Natives as natives
 use Rattle.lua_code.specs.Natives.{FileCode, ready, faulty, not_lua, File, Program, file_at, or_file, module_file, serve, resume}
-use Rattle.lua_code.specs.Act as act
-use Rattle.lua_code.specs.Sound.{IsSoundCode, AreSound, GoesOn, IsInside, IsFrame, IsActive, AreFrames, AreMade, IsSoundFile, IsSoundProgram, IsKept, still, weight, IsEnd, IsPending, KeptBelow, IsKeptStep, Keeps, AllKeep}
+use Rattle.lua_code.specs.Sound.{IsSoundCode, AreSound, GoesOn, AreFrames, AreMade, IsSoundFile, IsSoundProgram, still, KeptBelow, IsKeptStep}
 
 -- ---- steps
 

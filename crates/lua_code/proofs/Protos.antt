@@ -1,9 +1,8 @@
 -- A prototype to which something is added.
-use Rattle.std.proofs.Common.{◌≡◌, ℕ, zero, suc, ◌+◌, ◌<◌, ◌≤◌, List, [], ◌∷◌, ◌++◌, length, set, refl, sym, subst, ap, ◌∙◌, arith}
+use Rattle.std.proofs.Common.{◌≡◌, ℕ, zero, suc, ◌+◌, ◌≤◌, List, [], ◌∷◌, ◌++◌, length, set, sym, subst, arith}
 use Rattle.std.specs.Prelude.{max}
 use Rattle.std.specs.List.{AllByRecursion}
 use Rattle.std.proofs.lemmas.List.{length-append, length-set}
-use Rattle.lua_code.specs.declared.constant.Constant.{Constant}
 use Rattle.lua_code.specs.declared.instr.Instr.{Instr}
 use Rattle.lua_code.specs.declared.instr.Instr.TheVariants.{Const, SetCellConst, SetItemConst, SetNewConst, SetNewNamed, SetNewNamedConst, BinaryConst, GetNamed, GetGlobal, SetFieldConst, SetNamed, SetNamedConst, SetGlobal, SetGlobalConst}
 use Rattle.lua_code.specs.declared.instr.Site.{Site}

@@ -1,29 +1,25 @@
 -- Each instruction of sound code keeps what a machine keeps.
-use Rattle.std.proofs.Common.{ℕ, zero, suc, ◌+◌, ◌-◌, ◌≡◌, ◌≤◌, ◌<◌, refl, sym, ap, subst, List, [], ◌∷◌, ◌++◌, length, Option, Some, None, Bool, true, false, Result, Ok, Err, slice_get, arith}
-use Rattle.std.specs.Prelude.{◌*◌, ◌^◌, ℤ, codes}
-use Rattle.std.specs.List.{AllByRecursion}
-use Rattle.std.proofs.lemmas.Option.{none-some}
+use Rattle.std.proofs.Common.{ℕ, zero, suc, ◌+◌, ◌-◌, ◌≡◌, ◌<◌, refl, sym, subst, List, [], ◌∷◌, ◌++◌, length, Option, Some, None, Bool, true, false, Result, Ok, Err, slice_get, arith}
+use Rattle.std.specs.Prelude.{◌*◌, ◌^◌, ℤ}
 use Rattle.lua_value.specs.Arithmetic as arithmetic
 use Rattle.lua_value.specs.declared.arithmetic.NumFault.{NumFault}
-use Rattle.lua_tree.specs.Tree.{Bytes}
-use Rattle.lua_meaning.specs.Value.{Value, nil, flag, num, str, table, func, native, channel, thread, datum, is_true, is_nil}
+use Rattle.lua_meaning.specs.Value.{Value, nil, num, table, is_true, is_nil}
 use Rattle.lua_meaning.specs.Text.{as_number}
 use Rattle.lua_meaning.specs.Store.{Store}
-use Rattle.lua_meaning.specs.Message.{Ask, Reply}
-use Rattle.lua_meaning.specs.World.{Outcome, given, failed}
+use Rattle.lua_meaning.specs.World.{failed}
 use Rattle.lua_meaning.specs.Handlers as handlers
 use Rattle.lua_meaning.specs.Handlers.{Setting, setting}
 use Rattle.lua_meaning.specs.Running.{is_counting}
 use Rattle.lua_code.specs.Instr as i
 use Rattle.lua_code.specs.Instr.{Site, Operand, Wants, Instr, Proto, code_of}
-use Rattle.lua_code.specs.State.{Registers, State, Made, Running, Frame, waits, Active, lua, library, Config, Pending, Step, on, stop, asks}
+use Rattle.lua_code.specs.State.{Registers, State, Made, Running, Frame, waits, Active, lua, library, Step}
 use Rattle.lua_code.specs.Frames.{raised, finish, calling}
 use Rattle.lua_code.specs.Doing as doing
 use Rattle.lua_code.specs.Doing.{Doing, Use, unary_doing, binary_doing, field_doing}
-use Rattle.lua_code.specs.Natives.{Program, resume}
+use Rattle.lua_code.specs.Natives.{Program}
 use Rattle.lua_code.specs.Act as act
 use Rattle.lua_code.specs.Act.{at_pc, next}
-use Rattle.lua_code.specs.Sound.{IsSoundCode, GoesOn, IsInside, AreFrames, AreMade, IsSoundProgram, IsKept, still, weight, KeptBelow, IsKeptStep, Keeps, AllKeep}
+use Rattle.lua_code.specs.Sound.{IsSoundCode, GoesOn, IsInside, AreFrames, AreMade, IsSoundProgram, IsKept, still, weight, KeptBelow, AllKeep}
 use Rattle.lua_code.proofs.Keeping.{Later, less, is_kept, either, sound_short, sound_at, ticking_keeps, calls_keeps, finish_keeps, serves_keeps, attends}
 
 made_last : (made : List Made) (m : Made) → AreMade made → IsSoundCode m.code → AreMade (made ++ m ∷ [])

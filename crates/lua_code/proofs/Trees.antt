@@ -1,8 +1,8 @@
 -- The code of valid prototypes is sound.
-use Rattle.std.proofs.Common.{ℕ, zero, suc, ◌+◌, ◌-◌, ◌≡◌, ◌≤◌, ◌<◌, refl, sym, ap, ◌∙◌, subst, List, [], ◌∷◌, ◌++◌, length, Option, Some, None, slice_get, arith}
-use Rattle.std.specs.Prelude.{◌^◌, unwrap_or}
+use Rattle.std.proofs.Common.{ℕ, zero, suc, ◌+◌, ◌≡◌, ◌<◌, refl, sym, ap, ◌∙◌, subst, List, [], ◌∷◌, ◌++◌, length, Some, slice_get, arith}
+use Rattle.std.specs.Prelude.{unwrap_or}
 use Rattle.std.specs.List.{AllByRecursion}
-use Rattle.std.proofs.lemmas.Option.{none-some, same_Some}
+use Rattle.std.proofs.lemmas.Option.{none-some}
 use Rattle.std.proofs.lemmas.List.{length-append}
 use Rattle.lua_code.specs.Instr as i
 use Rattle.lua_code.specs.Instr.{Instrs, instrs_of, list_of}
@@ -10,7 +10,7 @@ use Rattle.lua_code.specs.declared.constant.Constant.{Constant}
 use Rattle.lua_code.specs.declared.instr.Instr.{Instr}
 use Rattle.lua_code.specs.declared.instr.Instr.TheVariants.{Close, Tick, Skip, SkipIf, SkipUnless, BackIf, BackUnless, ForBegin, ForNext, EachNext, Leave}
 use Rattle.lua_code.specs.declared.instr.Site.{Site}
-use Rattle.lua_code.specs.View.{MakesBefore, ProtoView, Inner, inner_at, site_view, instr_view, instrs_view, body_view, proto_view, inner_view, inners_behind, inners, code_at}
+use Rattle.lua_code.specs.View.{MakesBefore, ProtoView, Inner, inner_at, site_view, instr_view, instrs_view, body_view, proto_view, inner_view, inners_behind, inners}
 use Rattle.lua_code.specs.Valid.{Reaches, Uses, IsFine, IsSound, IsSoundOf, AreValid, instr_at, cells_at, cells_behind}
 use Rattle.lua_code.specs.Sound.{IsSoundCode, AreSound, GoesOn}
 use Rattle.lua_code.specs.Trees.{AllSound}

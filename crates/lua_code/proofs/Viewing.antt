@@ -1,17 +1,16 @@
 -- What code that is being made stands for.
-use Rattle.std.proofs.Common.{◌≡◌, ℕ, zero, suc, ◌+◌, ◌<◌, List, [], ◌∷◌, ◌++◌, length, set, refl, sym, subst, ap, ◌∙◌, Option, Some, None, slice_get, arith}
-use Rattle.std.specs.Prelude.{max, unwrap_or}
+use Rattle.std.proofs.Common.{◌≡◌, ℕ, zero, suc, ◌<◌, List, [], ◌∷◌, ◌++◌, length, set, refl, ap, ◌∙◌, Some, slice_get, arith}
+use Rattle.std.specs.Prelude.{max}
 use Rattle.std.specs.List.{AllByRecursion}
 use Rattle.std.proofs.lemmas.Option.{none-some, same_Some}
 use Rattle.lua_tree.specs.View.{binary_view}
 use Rattle.lua_meaning.specs.Expressions.{globals}
 use Rattle.lua_code.specs.Instr as i
 use Rattle.lua_code.specs.declared.constant.Constant.{Constant}
-use Rattle.lua_code.specs.declared.constant.Constant.TheVariants.{Nil}
 use Rattle.lua_code.specs.declared.instr.Instr.{Instr}
 use Rattle.lua_code.specs.declared.instr.Instr.TheVariants.{Const, SetCellConst, Close, SetItemConst, SetNewConst, SetNewNamed, SetNewNamedConst, BinaryConst, GetNamed, GetGlobal, SetFieldConst, SetNamed, SetNamedConst, SetGlobal, SetGlobalConst}
 use Rattle.lua_code.specs.declared.instr.Site.{Site}
-use Rattle.lua_code.specs.View.{ProtoView, MakesBefore, Inner, inner_at, no_inner, constant_at, constant_view, site_view, instr_view, instrs_view, body_view, inner_view, inners_behind, inners}
+use Rattle.lua_code.specs.View.{ProtoView, MakesBefore, Inner, inner_at, constant_at, constant_view, site_view, instr_view, instrs_view, body_view, inner_view, inners_behind, inners}
 use Rattle.lua_code.specs.Within.{slots_of, AreKnown, IsWithin, IsProto}
 
 -- ---- constants

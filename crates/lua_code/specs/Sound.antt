@@ -1,10 +1,10 @@
 -- Code whose jumps lead inside, and what a machine that runs it keeps: it's never stuck, and goes down.
-use Rattle.std.specs.Prelude.{◌≡◌, ℕ, suc, ◌+◌, ◌-◌, ◌*◌, ◌^◌, ◌<◌, ◌≤◌, List, [], ◌∷◌, length, ⊤}
+use Rattle.std.specs.Prelude.{ℕ, suc, ◌+◌, ◌-◌, ◌*◌, ◌^◌, ◌<◌, List, [], ◌∷◌, length, ⊤}
 use Rattle.std.specs.List.{AllByRecursion}
 use Rattle.lua_meaning.specs.Message.{Ask, Reply}
 use Rattle.lua_code.specs.Instr as i
 use Rattle.lua_code.specs.Instr.{Instr, Instrs, no_instrs, instr_and, Proto, proto_of, list_of, code_of}
-use Rattle.lua_code.specs.State.{Made, State, Running, Frame, waits, serves, Active, lua, library, Config, End, ended, failed, no_ticks, needed, stuck, Pending, Step, on, stop, asks}
+use Rattle.lua_code.specs.State.{Made, Running, Frame, waits, serves, Active, lua, library, Config, End, ended, failed, no_ticks, needed, stuck, Pending, Step, on, stop, asks}
 use Rattle.lua_code.specs.Natives.{FileCode, ready, faulty, not_lua, File, Program, resume}
 use Rattle.lua_code.specs.Act.{act}
 

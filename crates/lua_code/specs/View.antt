@@ -1,5 +1,5 @@
 -- What a prototype's lists stand for: the code of the definitions, as a tree.
-use Rattle.std.specs.Prelude.{ℕ, Bool, false, List, [], ◌∷◌, ◌++◌, Option, Some, None, slice_get, unwrap_or, ◌<◌, ⊤}
+use Rattle.std.specs.Prelude.{ℕ, Bool, false, List, [], ◌∷◌, ◌++◌, slice_get, unwrap_or, ◌<◌, ⊤}
 use Rattle.lua_tree.specs.Tree.{Bytes}
 use Rattle.lua_tree.specs.View.{unary_view, binary_view}
 use Rattle.lua_meaning.specs.Value as meant

@@ -1,5 +1,5 @@
 -- Which slots and constants an instruction names.
-use Rattle.std.specs.Prelude.{◌≡◌, ℕ, suc, ◌+◌, ◌<◌, ◌≤◌, max, List, [], length, ⊤}
+use Rattle.std.specs.Prelude.{◌≡◌, ℕ, suc, ◌+◌, ◌<◌, ◌≤◌, max, length, ⊤}
 use Rattle.std.specs.List.{AllByRecursion}
 use Rattle.lua_code.specs.declared.instr.Instr.{Instr}
 use Rattle.lua_code.specs.declared.instr.Instr.TheVariants.{Move, Const, GetCell, SetCell, SetCellConst, NewCell, Close, NewTable, SetItem, SetItemConst, SetRest, SetNew, SetNewConst, SetNewNamed, SetNewNamedConst, FirstExtra, AllExtra, Unary, Binary, BinaryConst, GetField, GetNamed, GetGlobal, SetField, SetFieldConst, SetNamed, SetNamedConst, SetGlobal, SetGlobalConst, Invoke, InvokeAll, Spread, Tick, Skip, SkipIf, SkipUnless, BackIf, BackUnless, ForBegin, ForNext, EachNext, Leave}

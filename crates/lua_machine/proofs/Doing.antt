@@ -69,6 +69,8 @@ made_at h xs n lt all = all_at (IsCounted (counts h)) xs n lt all
 pub with_slot_is : (m : MachineView) (n : ℕ) (v : Value) → IsMachine m → IsMade m.heap v → IsMachine (with_slot m n v)
 with_slot_is m n v is made =
     record {
+      extra = is.extra;
+      below = is.below;
       values = all_set (IsCounted (counts m.heap)) m.values (m.base + n) v is.values made;
       tail = is.tail;
       extras = is.extras;
@@ -111,6 +113,8 @@ module _ {X : Type 0} where
 pub later_at : (m : MachineView) (h : HeapView) (pc : ℕ) → Extends m.heap h → IsMachine m → IsMachine (record m { heap = h; pc = pc })
 later_at m h pc more is =
     record {
+      extra = is.extra;
+      below = is.below;
       values = values m.values is.values;
       tail = values m.tail is.tail;
       extras = values m.extras is.extras;

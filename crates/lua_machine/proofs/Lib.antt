@@ -1,2 +1,4 @@
 pub mod Doing
 pub mod Turning
+pub mod Waiting
+pub mod Leaving

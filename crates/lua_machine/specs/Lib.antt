@@ -4,3 +4,6 @@ pub mod Constants
 pub mod Does
 pub mod Numbers
 pub mod Turns
+pub mod Frames
+pub mod Results
+pub mod Entering

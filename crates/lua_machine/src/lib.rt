@@ -1,7 +1,9 @@
 //! The machine that runs code of Lua.
 #![tactic(auto)]
 
+mod calls;
 mod cells;
+mod entering;
 mod frame;
 mod jumps;
 mod loaded;
@@ -11,6 +13,8 @@ mod moves;
 mod numbers;
 mod operators;
 mod registers;
+mod results;
 mod tables;
+mod truth;
 
 pub use machine::Machine;

@@ -3,11 +3,13 @@
 use crate::frame::Frame;
 use crate::loaded::Loaded;
 use lua_heap::{CellId, Heap, Value};
+use std::alloc::Global;
 use std::marker::Model;
 
 /// A machine that runs the code of a state.
 #[derive(Debug, Drop)]
 pub struct Machine {
+    pub(crate) alloc: Global,
     pub(crate) heap: Heap,
     pub(crate) loaded: Vec<Loaded>,
     // The slots of all frames, the cells of the functions that run, the values of the last
