@@ -69,7 +69,7 @@ const ENDED: [&str; 61] = [
 #[test]
 fn a_source_that_ends_early_is_unexpected_there(rt: HostRuntime) -> Result<(), Fail> {
     for source in ENDED {
-        let place = source.len() as u32;
+        let place = u32::try_from(source.len()).unwrap_or(u32::MAX);
         match parse(rt.alloc(), source.as_bytes()) {
             Ok(_) => panic!(rt; "{source}"),
             Err(fault) => {

@@ -1,4 +1,5 @@
-// Trees as texts, in which a list stands in parentheses, behind the line of its node where that is asked for.
+//! Trees as texts, in which a list stands in parentheses, behind the line of its node where that is
+//! asked for.
 use crate::{Arm, BinOp, Block, Expr, ExprKind, Field, Func, Stat, StatKind, UnOp};
 use love_base::{List, Text};
 use std::alloc::{AllocError, Global};
@@ -82,7 +83,8 @@ fn put_stat(shown: &mut Shown, stat: &Stat) -> Result<(), AllocError> {
         }
         StatKind::If(arms, last) => {
             open(shown, "if", line)?;
-            put_arms(shown, arms.as_slice(), last)?;
+            put_arms(shown, arms.as_slice())?;
+            put_else(shown, last)?;
         }
         StatKind::NumFor(name, first, limit, step, block) => {
             open(shown, "for", line)?;
@@ -121,17 +123,24 @@ fn put_stat(shown: &mut Shown, stat: &Stat) -> Result<(), AllocError> {
 }
 
 #[cycle(shown)]
-fn put_arms(shown: &mut Shown, arms: &[Arm], last: &Option<Block>) -> Result<(), AllocError> {
+fn put_arms(shown: &mut Shown, arms: &[Arm]) -> Result<(), AllocError> {
     for arm in arms {
         put_expr(shown, &arm.test)?;
         put(shown, " then")?;
         put_block(shown, &arm.block)?;
     }
-    if let Some(block) = last {
-        put(shown, " else")?;
-        put_block(shown, block)?;
-    }
     Ok(())
+}
+
+#[cycle(shown)]
+fn put_else(shown: &mut Shown, last: &Option<Block>) -> Result<(), AllocError> {
+    match last {
+        None => Ok(()),
+        Some(block) => {
+            put(shown, " else")?;
+            put_block(shown, block)
+        }
+    }
 }
 
 #[cycle(shown)]
