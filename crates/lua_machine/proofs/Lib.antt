@@ -1,4 +1,0 @@
-pub mod Doing
-pub mod Turning
-pub mod Waiting
-pub mod Leaving

@@ -1,9 +1,0 @@
-pub mod View
-pub mod Made
-pub mod Constants
-pub mod Does
-pub mod Numbers
-pub mod Turns
-pub mod Frames
-pub mod Results
-pub mod Entering
