@@ -22,5 +22,3 @@ pub use fault::ParseFault;
 pub use parser::parse;
 pub use tree::{Arm, BinOp, Block, Chunk, Expr, ExprKind, Field, Func, Stat, StatKind, UnOp};
 
-#[cfg(test)]
-mod tests;

@@ -1,4 +1,4 @@
-use crate::{ParseFault, parse};
+use lua_tree::{ParseFault, parse};
 use std::test::Fail;
 
 // Sources that end inside a rule: their end is unexpected, on the first line.

@@ -1,11 +1,11 @@
 //! Trees as texts, in which a list stands in parentheses, behind the line of its node where that is
 //! asked for.
-use crate::{Arm, BinOp, Block, Expr, ExprKind, Field, Func, Stat, StatKind, UnOp};
+use lua_tree::{Arm, BinOp, Block, Expr, ExprKind, Field, Func, Stat, StatKind, UnOp};
 use love_base::{List, Text};
 use std::alloc::{AllocError, Global};
 
 #[derive(Drop)]
-pub(super) struct Shown {
+pub(crate) struct Shown {
     pub bytes: Vec<u8>,
     // Whether the lines of nodes are shown.
     pub lines: bool,
@@ -38,7 +38,7 @@ fn put_names(shown: &mut Shown, names: &List<Text>) -> Result<(), AllocError> {
 }
 
 #[cycle(shown)]
-pub(super) fn put_block(shown: &mut Shown, block: &Block) -> Result<(), AllocError> {
+pub(crate) fn put_block(shown: &mut Shown, block: &Block) -> Result<(), AllocError> {
     for stat in block.stats.as_slice() {
         put(shown, " ")?;
         put_stat(shown, stat)?;
@@ -275,7 +275,7 @@ fn binary(op: BinOp) -> &'static str {
 }
 
 // The text of a block.
-pub(super) fn text_of(alloc: Global, block: &Block, lines: bool) -> Result<Vec<u8>, AllocError> {
+pub(crate) fn text_of(alloc: Global, block: &Block, lines: bool) -> Result<Vec<u8>, AllocError> {
     let mut shown = Shown {
         bytes: Vec::new(alloc),
         lines,

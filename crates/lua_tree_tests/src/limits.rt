@@ -1,4 +1,4 @@
-use crate::{ParseFault, parse};
+use lua_tree::{ParseFault, parse};
 use std::alloc::{AllocError, Global};
 use std::test::Fail;
 

@@ -1,5 +1,5 @@
-use super::shown::text_of;
-use crate::parse;
+use crate::shown::text_of;
+use lua_tree::parse;
 use std::test::Fail;
 
 #[test]

@@ -1,4 +1,0 @@
-mod faults;
-mod limits;
-mod shown;
-mod trees;
