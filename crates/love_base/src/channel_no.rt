@@ -1,8 +1,5 @@
 ghost use Rattle.std.specs.Prelude.{◌≡◌, ◌≤◌, ◌↔◌, IsSome, IfSome};
 
-#[cfg(test)]
-mod tests;
-
 use std::marker::Model;
 
 // The greatest number of a Channel.

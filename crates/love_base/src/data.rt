@@ -2,9 +2,6 @@ ghost use Rattle.std.specs.Prelude.{◌≡◌, ◌+◌, ◌≤◌, ◌↔◌, le
 ghost use Rattle.std.specs.Option.{option_copied};
 ghost use Rattle.love_base.specs.Data.{part};
 
-#[cfg(test)]
-mod tests;
-
 use crate::{Memory, Text};
 use std::alloc::Global;
 use std::marker::Model;

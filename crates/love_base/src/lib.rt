@@ -19,8 +19,6 @@ mod real_sink;
 mod script;
 mod sink;
 mod stamp;
-#[cfg(test)]
-mod tests;
 mod text;
 mod text_order;
 

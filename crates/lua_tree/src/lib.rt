@@ -21,4 +21,3 @@ mod tree;
 pub use fault::ParseFault;
 pub use parser::parse;
 pub use tree::{Arm, BinOp, Block, Chunk, Expr, ExprKind, Field, Func, Stat, StatKind, UnOp};
-

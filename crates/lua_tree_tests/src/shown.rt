@@ -1,7 +1,7 @@
 //! Trees as texts, in which a list stands in parentheses, behind the line of its node where that is
 //! asked for.
-use lua_tree::{Arm, BinOp, Block, Expr, ExprKind, Field, Func, Stat, StatKind, UnOp};
 use love_base::{List, Text};
+use lua_tree::{Arm, BinOp, Block, Expr, ExprKind, Field, Func, Stat, StatKind, UnOp};
 use std::alloc::{AllocError, Global};
 
 #[derive(Drop)]

@@ -1,5 +1,4 @@
-use super::Data;
-use crate::{Memory, Text};
+use love_base::{Data, Memory, Text};
 use std::alloc::Global;
 use std::test::Fail;
 use std::thread;

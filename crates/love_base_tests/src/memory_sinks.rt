@@ -1,6 +1,6 @@
 ghost use Rattle.std.specs.Prelude.{◌<◌, length};
 
-use crate::{CountSink, MemSink, Sink, SinkErr};
+use love_base::{CountSink, MemSink, Sink, SinkErr};
 use std::alloc::Global;
 use std::test::Fail;
 

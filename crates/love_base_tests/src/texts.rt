@@ -1,4 +1,4 @@
-use crate::{Memory, Stamp, Text};
+use love_base::{Memory, Stamp, Text};
 use std::alloc::Global;
 use std::cmp::Ordering;
 use std::test::Fail;

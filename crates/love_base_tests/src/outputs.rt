@@ -1,6 +1,6 @@
 ghost use Rattle.std.specs.Prelude.{◌<◌};
 
-use crate::{RealSink, Sink, SinkErr};
+use love_base::{RealSink, Sink, SinkErr};
 use std::fmt::Display;
 use std::io;
 use std::io::ErrorKind;

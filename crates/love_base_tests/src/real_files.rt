@@ -1,4 +1,4 @@
-use crate::{Folder, FolderErr, Memory, RealFolder, Text};
+use love_base::{Folder, FolderErr, Memory, RealFolder, Text};
 use std::os::unix::fs::{PermissionsExt, symlink};
 use std::test::Fail;
 use std::{fs, process};

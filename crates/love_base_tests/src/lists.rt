@@ -1,4 +1,4 @@
-use crate::{List, Memory, Text};
+use love_base::{List, Memory, Text};
 use std::alloc::Global;
 use std::test::Fail;
 

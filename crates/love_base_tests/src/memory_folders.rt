@@ -2,7 +2,7 @@ ghost use Rattle.std.specs.Prelude.{◌≡◌, [], ◌∷◌, IfOk, IsSome, code
 ghost use Rattle.std.specs.Option.{ForSome};
 ghost use Rattle.love_base.specs.Folder.{content, stored};
 
-use crate::{Folder, FolderErr, MemFolder, Memory, QuietFolder, Text};
+use love_base::{Folder, FolderErr, MemFolder, Memory, QuietFolder, Text};
 use std::alloc::Global;
 use std::test::Fail;
 

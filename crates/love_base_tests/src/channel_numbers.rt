@@ -1,4 +1,4 @@
-use super::ChannelNo;
+use love_base::ChannelNo;
 
 fn number(n: u32) -> Option<u32> {
     Some(ChannelNo::new(n)?.get())
