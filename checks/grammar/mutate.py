@@ -29,6 +29,8 @@ def pieces(source):
 def mutated(chance, tokens):
     tokens = list(tokens)
     solid = [i for i, t in enumerate(tokens) if not t.isspace() and not t.startswith(b"--")]
+    if not solid:
+        return b"".join(tokens)
     for _ in range(chance.choice([1, 1, 1, 2, 3])):
         i = chance.choice(solid)
         kind = chance.randrange(5)
