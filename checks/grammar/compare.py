@@ -20,7 +20,7 @@ LIMITS = re.compile(
 )
 # Faults that only the profile has, or that it has at another number.
 OWN = re.compile(r"NotWhole|TooDeep|TooManyLocals|TooLong")
-PLACE = re.compile(r"^luac5\.1: .*:(\d+): (.*)$")
+PLACE = re.compile(r"^luac5\.1: .*?:(\d+): (.*)$", re.S)
 
 
 def luac(path, command):
