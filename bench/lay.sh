@@ -7,14 +7,14 @@
 top=$(dirname -- "$(dirname -- "$bench")")
 
 complain() { # STATUS WHY
-    printf '%s\n' "bench/${bench##*/}/run.sh: $2" >&2
+    printf '%s\n' "${bench#"$top"/}/run.sh: $2" >&2
     exit "$1"
 }
 
 # Sets `folder` to the one that the caller names, which is kept with what is built in it for the next run, or else
 # to a temporary one that goes with the script.
 choose_folder() { # [FOLDER]
-    [[ $# -le 1 && ${1-.} != '' && ${1-} != -* ]] || complain 64 "usage: bench/${bench##*/}/run.sh [FOLDER]"
+    [[ $# -le 1 && ${1-.} != '' && ${1-} != -* ]] || complain 64 "usage: ${bench#"$top"/}/run.sh [FOLDER]"
     command -v rt >/dev/null || complain 125 "rt, the toolchain's command, isn't on PATH"
     if (($# == 0)); then
         folder=$(mktemp -d)

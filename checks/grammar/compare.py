@@ -3,7 +3,7 @@
 
 usage: compare.py PROGRAM LUAC FILE..
 
-PROGRAM is the built checks/grammar. A source counts as different where one of the two takes it and the other doesn't,
+PROGRAM is the built program of checks/grammar/src, as run.sh builds it. A source counts as different where one of the two takes it and the other doesn't,
 unless the difference is one that docs/LANGUAGE.md marks as own; those are counted by their kind. Of faults at a token
 that both name, the line is compared too.
 """
