@@ -56,7 +56,6 @@ def without_cycle(stem, text, cycle):
         text = re.sub(rf"(?<!fn )(?<![\w:.]){name}\(", f"crate::stub_{stem}::{name}(", text)
     text = text.replace("#[cycle(grammar)]\n", "")
     if stem == "lib":
-        text = text.replace("#[cfg(test)]\nmod tests;\n", "")
         for file in cycle:
             text = text.replace(f"mod {file};\n", f"mod {file};\nmod stub_{file};\n")
     return text
@@ -112,7 +111,7 @@ def main():
         for part in ("src", "specs", "proofs", "out"):
             if (TOP / "crates" / name / part).exists() and not (to / "crates" / name / part).exists():
                 shutil.copytree(TOP / "crates" / name / part, to / "crates" / name / part)
-    texts = {file.stem: file.read_text() for file in sorted((CRATE / "src").glob("*.rt")) if file.stem != "tests"}
+    texts = {file.stem: file.read_text() for file in sorted((CRATE / "src").glob("*.rt"))}
     cycle = members(texts)
     for stem, text in texts.items():
         put(copy / f"src/{stem}.rt", without_cycle(stem, text, cycle))
