@@ -1,0 +1,10 @@
+mod Tests
+mod Items
+mod Within
+mod Walk
+mod Seen
+mod Packed
+mod Keeping
+mod Unpacked
+mod Sent
+mod Again
