@@ -62,16 +62,6 @@ at-other (y ∷ xs) (suc i) zero x d apart = refl
 at-other (y ∷ xs) zero (suc j) x d apart = refl
 at-other (y ∷ xs) (suc i) (suc j) x d apart = at-other xs i j x d (λ e. apart (ap (λ n. suc n) e))
 
-stands-add_table : (P : ℕ → Type 0) (s : Store) → Stands P s (add_table s)
-stands-add_table P s =
-    let size : length (add_table s).tables ≡ length s.tables + 1 = length-append s.tables (no_table ∷ []) in
-    record {
-      tables = omega (arith, size);
-      contents = omega arith;
-      table = λ i p within. at-before s.tables (no_table ∷ []) i no_table within;
-      content = λ i within. refl;
-    }
-
 stands-add_contents : (P : ℕ → Type 0) (s : Store) (made : Contents) → Stands P s (add_contents s made)
 stands-add_contents P s made =
     let size : length (add_contents s made).contents ≡ length s.contents + 1 = length-append s.contents (made ∷ []) in

@@ -11,12 +11,6 @@ at_item {X} xs ys i x same within is = subst (λ zs. drop i zs ≡ x ∷ drop (i
 pub at_end : {X : Type 0} → (xs ys : List X) (i : ℕ) → ys ≡ xs → length ys ≤ i → drop i xs ≡ []
 at_end xs ys i same past = subst (λ zs. drop i zs ≡ []) same (at_drop_all (λ zs. zs) ys i past)
 
--- what holds of all holds of a loop's item
-pub all-at : {X : Type 0} → (P : X → Type 0) (xs : List X) (i : ℕ) (x : X) → AllByRecursion P xs → i < length xs → x ≡ get_or xs i x → P x
-all-at P [] i x all within is = absurd (omega arith)
-all-at P (y ∷ xs) zero x all within is = subst P (sym is) all.0
-all-at P (y ∷ xs) (suc i) x all within is = all-at P xs i x all.1 (omega arith) is
-
 -- ---- one more item
 
 pub all-more : {X : Type 0} → (P : X → Type 0) (xs : List X) (x : X) → AllByRecursion P xs → P x → AllByRecursion P (xs ++ x ∷ [])

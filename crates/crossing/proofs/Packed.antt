@@ -72,14 +72,8 @@ module _ (left : ℕ) (s : Store) (inside : List ℕ) where
   pub num_answers : (n : ℤ) → Answers message_view (pack_within left s inside (meant.num n)) (Ok (variant.Num n))
   num_answers n = within-num left s inside n ∙ ap (λ m. Ok m) (sym (seen-Num n))
 
-  pub text_answers : (text : Bytes) → Answers message_view (pack_within left s inside (meant.str text)) (Ok (variant.Bytes text))
-  text_answers text = within-str left s inside text ∙ ap (λ m. Ok m) (sym (seen-Bytes text))
-
   pub channel_answers : (c : ℕ) → Answers message_view (pack_within left s inside (meant.channel c)) (Ok (variant.Channel c))
   channel_answers c = within-channel left s inside c ∙ ap (λ m. Ok m) (sym (seen-Channel c))
-
-  pub data_answers : (d : ℕ) (made : Contents) → made ≡ contents_at s d → Answers message_view (pack_within left s inside (meant.datum d)) (Ok (variant.Data made))
-  data_answers d made is = within-datum left s inside d ∙ ap (λ c. Ok (Message.datum c)) (sym is) ∙ ap (λ m. Ok m) (sym (seen-Data made))
 
   pub func_answers : (f : ℕ) → Answers {M = Message} {V = Variant} message_view (pack_within left s inside (meant.func f)) (Err (Kind (type_of (meant.func f))))
   func_answers f = answers-refusal message_view (pack_within left s inside (meant.func f)) (packing.kind (meant.func f)) (within-func left s inside f)

@@ -62,10 +62,6 @@ unpacked-Num h n = let is = ap (λ m. unpack m (store_of h)) (seen-Num n) in rec
 pub unpacked-Channel : (h : HeapView) (c : ℕ) → IsUnpacked (message_view (variant.Channel c)) h h (Channel c)
 unpacked-Channel h c = let is = ap (λ m. unpack m (store_of h)) (seen-Channel c) in record { value = ap (λ (r : meant.Value × Store). r.0) (sym is); store = ap (λ (r : meant.Value × Store). r.1) (sym is); made = tt }
 
--- a message that is seen as another
-pub unpacked-seen : (m n : Message) (f g : HeapView) (v : Value) → n ≡ m → IsUnpacked m f g v → IsUnpacked n f g v
-unpacked-seen m n f g v same is = subst (λ x. IsUnpacked x f g v) (sym same) is
-
 text_at-is : (texts : List (List ℕ)) (id : ℕ) (text : List ℕ) → slice_get texts id ≡ Some text → text_at texts id ≡ text
 text_at-is texts id text is = ap (λ o. unwrap_or o []) is
 
@@ -172,9 +168,6 @@ pub record IsBegun (first now : HeapView) (so_far : List Value) (left all : List
   pub store : (unpack_all (map message_view left) (store_of now)).1 ≡ (unpack_all (map message_view all) (store_of first)).1
   pub made : AllByRecursion (IsMade now) so_far
   pub kept : Keeps (length first.tables) first now
-
-pub begun-start : (h : HeapView) (all : List Variant) → IsBegun h h [] all all
-begun-start h all = record { values = refl; store = refl; made = tt; kept = Keeps-same (length h.tables) h h refl }
 
 module _ (first now next : HeapView) (so_far : List Value) (m : Variant) (left all : List Variant) (begun : IsBegun first now so_far (m ∷ left) all) (kept : Keeps (length now.tables) now next) where
   pub begun-kept : Keeps (length first.tables) first next

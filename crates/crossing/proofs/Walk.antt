@@ -96,9 +96,6 @@ pub record IsWalked (places : Places Value Value) (pairs : List (Value × Value)
   pub taken : pairs ≡ pairs_in done
   pub here : next ≡ first rest
 
-pub walk-start : (places : Places Value Value) (pairs : List (Value × Value)) (next : Option (Value × Value)) → pairs ≡ [] → next ≡ first places → IsWalked places pairs next
-walk-start places pairs next empty here = record { done = []; rest = places; split = refl; taken = empty; here = here }
-
 pub walk-step : (places : Places Value Value) (pairs more : List (Value × Value)) (pair : Value × Value) (next : Option (Value × Value))
     → IsDistinct value_eq (keys_of places) → IsWalked places pairs (Some pair) → next ≡ pair_found (next_after value_eq places pair.0)
     → more ≡ pairs ++ pair ∷ [] → IsWalked places more next
