@@ -1,11 +1,9 @@
--- What a write does to the values at the positions, and what follows for the least border.
-use Rattle.std.proofs.Common.{◌≡◌, ℕ, zero, suc, ◌+◌, ◌-◌, ◌<◌, ◌≤◌, Bool, true, false, cond, [], ◌∷◌, length, Option, None, Some, refl, sym, ap, ◌∙◌, is_some, IsSome, IsNone, IsTrue, arith, ◌↔◌, Bor}
-use native.Mathlib.Decide.{dec_lt}
+-- What a write does to the values at the positions, and which border is the least one.
+use Rattle.std.proofs.Common.{◌≡◌, ℕ, zero, suc, ◌+◌, ◌<◌, ◌≤◌, Bool, true, false, cond, [], ◌∷◌, length, Option, None, Some, refl, sym, ap, ◌∙◌, is_some, IsSome, IsNone, IsTrue, arith, ◌↔◌}
 use Rattle.std.proofs.lemmas.Option.{same_Some}
 use Rattle.std.specs.Cmp.{IsEquivalence}
-use Rattle.std.specs.List.{IsDistinct}
-use Rattle.std.specs.Option.{option_and_then, option_copied}
-use Rattle.lua_table.specs.Table.{Places, get, set, clear_key, value_at, run_length, border, IsFilledTo, IsLeastBorder, IsTable}
+use Rattle.std.specs.Option.{option_and_then}
+use Rattle.lua_table.specs.Table.{Places, get, set, clear_key, value_at, run_length, border, IsFilledTo, IsLeastBorder}
 
 -- what the keys of a table keep: equality is an equivalence and no more than sameness, and `number` turns `at` round
 pub record Lawful {K : Type 0} (same : K → K → Bool) (at : ℕ → Option K) (number : K → Option ℕ) : Type 0 where
@@ -14,7 +12,7 @@ pub record Lawful {K : Type 0} (same : K → K → Bool) (at : ℕ → Option K)
   pub inverse : (key : K) (n : ℕ) → (number key ≡ Some n) ↔ (at n ≡ Some key)
 
 -- the key at another position than that of a key is not equal to it
-apart_from : {K : Type 0} {same : K → K → Bool} {at : ℕ → Option K} {number : K → Option ℕ} → Lawful same at number
+pub apart_from : {K : Type 0} {same : K → K → Bool} {at : ℕ → Option K} {number : K → Option ℕ} → Lawful same at number
     → (key other : K) (n : ℕ) → at n ≡ Some other → (number key ≡ Some n → ⊥) → same other key ≡ false
 apart_from {K} {same} {at} {number} lawful key other n e apart = by (same other key) refl
   where
@@ -119,70 +117,6 @@ module _ {K V : Type 0} {same : K → K → Bool} {at : ℕ → Option K} {numbe
       ap (option_and_then (get same (clear_key same places key))) ((lawful.inverse key n).0 own)
       ∙ get-clear_key same lawful.equivalence places key key ∙ ap (λ b. cond b None (get same places key)) (lawful.equivalence.refl key)
 
-  -- a value that is set leaves the positions before it filled
-  pub IsFilledTo-set : (places : Places K V) (key : K) (value : V) (n : ℕ) → IsFilledTo same at places n → IsFilledTo same at (set same places key value) n
-  IsFilledTo-set places key value n filled k low high = by (at k) refl (filled k low high)
-    where
-      by : (o : Option K) → at k ≡ o → IsSome (option_and_then (get same places) o) → IsSome (option_and_then (get same (set same places key value)) o)
-      by None e some = some
-      by (Some other) e some = rw (get-set same lawful.equivalence places key value other) (here (same other key))
-        where
-          here : (b : Bool) → IsSome (cond b (Some value) (get same places other))
-          here true = refl
-          here false = some
-
-  -- and the next position filled where the key is the one there
-  pub IsFilledTo-set-next : (places : Places K V) (key : K) (value : V) (n : ℕ) → IsLeastBorder same at places n → number key ≡ Some (n + 1)
-      → IsFilledTo same at (set same places key value) (n + 1)
-  IsFilledTo-set-next places key value n least own k low high =
-      elim (dec_lt k (n + 1)) [
-        | yes below ↦ IsFilledTo-set places key value n least.filled k low (omega (arith, below))
-        | no above ↦
-            let here : k ≡ n + 1 = omega (arith, above, high) in
-            rw (here, value_at-set-own places key value (n + 1) own) refl
-      ]
-
-  -- a value that is set at another key than the next position's leaves the border
-  pub IsLeastBorder-set-other : (places : Places K V) (key : K) (value : V) (n : ℕ) → IsLeastBorder same at places n → (number key ≡ Some (n + 1) → ⊥)
-      → IsLeastBorder same at (set same places key value) n
-  IsLeastBorder-set-other places key value n least apart = record {
-    filled = IsFilledTo-set places key value n least.filled;
-    open_after = rw (value_at-set-other places key value (n + 1) apart) least.open_after;
-  }
-
-  -- a key that is cleared behind the border, or has no position, leaves the border
-  pub IsLeastBorder-clear_key-behind : (places : Places K V) (key : K) (n : ℕ) → IsLeastBorder same at places n → ((k : ℕ) → number key ≡ Some k → n < k)
-      → IsLeastBorder same at (clear_key same places key) n
-  IsLeastBorder-clear_key-behind places key n least behind = record {
-    filled = λ k low high.
-        let apart : number key ≡ Some k → ⊥ = λ own. omega (arith, behind k own) in
-        rw (value_at-clear_key-other places key k apart) (least.filled k low high);
-    open_after = by (at (n + 1)) least.open_after;
-  }
-    where
-      by : (o : Option K) → IsNone (option_and_then (get same places) o) → IsNone (option_and_then (get same (clear_key same places key)) o)
-      by None none = none
-      by (Some other) none = rw (get-clear_key same lawful.equivalence places key other) (here (same other key))
-        where
-          here : (b : Bool) → IsNone (cond b None (get same places other))
-          here true = refl
-          here false = none
-
-  -- a key that is cleared within the border is the first gap
-  pub IsLeastBorder-clear_key-within : (places : Places K V) (key : K) (n k : ℕ) → IsLeastBorder same at places n → number key ≡ Some k → 1 ≤ k → k ≤ n
-      → IsLeastBorder same at (clear_key same places key) (k - 1)
-  IsLeastBorder-clear_key-within places key n k least own low within = record {
-    filled = λ j above below.
-        let apart : number key ≡ Some j → ⊥ = λ other. differ j (omega arith) (same_Some k j (sym own ∙ other)) in
-        rw (value_at-clear_key-other places key j apart) (least.filled j above (omega arith));
-    open_after =
-        let here : k - 1 + 1 ≡ k = omega arith in
-        rw (here, value_at-clear_key-own places key k own) refl;
-  }
-    where
-      differ : (j : ℕ) → j < k → k ≡ j → ⊥
-      differ j less e = omega arith
-
   -- no more positions are filled than there are places
   pub IsFilledTo-le : (n : ℕ) (places : Places K V) → IsFilledTo same at places n → n ≤ length places
   unfolding without
@@ -208,17 +142,6 @@ module _ {K V : Type 0} {same : K → K → Bool} {at : ℕ → Option K} {numbe
                 where
                   differ : suc n ≡ k → ⊥
                   differ e = omega arith
-
-  -- one more position is filled where the key there has a value
-  pub IsFilledTo-next : (n : ℕ) (places : Places K V) (key : K) → IsFilledTo same at places n → at (n + 1) ≡ Some key → IsSome (get same places key)
-      → IsFilledTo same at places (n + 1)
-  IsFilledTo-next n places key filled e some k low high =
-      elim (dec_lt k (n + 1)) [
-        | yes below ↦ filled k low (omega (arith, below))
-        | no above ↦
-            let here : k ≡ n + 1 = omega (arith, above, high) in
-            rw (here, e) some
-      ]
 
 -- positions count from 1
 pub one-le-number : {K : Type 0} {same : K → K → Bool} {at : ℕ → Option K} {number : K → Option ℕ} (last : ℕ) → Lawful same at number
@@ -246,20 +169,3 @@ module _ {K V : Type 0} (same : K → K → Bool) (at : ℕ → Option K) where
   border-IsLeastBorder places n least within =
       let step : n + 1 ≡ 1 + n = omega arith in
       run_length-run places (length places) n 1 (λ k low high. least.filled k low (omega arith)) (rw step at least.open_after) within
-
--- a value behind a reference is there where the reference is
-pub value_there : {V : Type 0} (found : Option (Bor V)) (value : Option V) → option_copied found ≡ value → IsSome found → IsSome value
-value_there None value e some = cc
-value_there (Some v) value e some = sym (ap is_some e)
-
--- an empty table
-pub IsTable-empty : {K V : Type 0} (same : K → K → Bool) (at : ℕ → Option K) → IsTable {K = K} {V = V} same at [] 0
-unfolding IsDistinct
-IsTable-empty {K} {V} same at = record {
-  distinct = tt;
-  border = record { filled = λ k low high. absurd (omega arith); open_after = here (at (0 + 1)) };
-}
-  where
-    here : (o : Option K) → IsNone (option_and_then (get {K = K} {V = V} same []) o)
-    here None = refl
-    here (Some key) = refl

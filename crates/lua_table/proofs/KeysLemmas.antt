@@ -4,7 +4,6 @@ use native.Mathlib.Decide.{dec_lt}
 use Rattle.std.proofs.lemmas.Option.{same_Some, none-some}
 use Rattle.std.proofs.lemmas.List.{take-append-le, take_all}
 use Rattle.std.proofs.lemmas.Map.Keys.{IsDistinct-push}
-use Rattle.std.specs.Cmp.{IsEquivalence}
 use Rattle.std.specs.List.{IsDistinct, list_any}
 use Rattle.std.specs.Map.{lookup}
 use Rattle.std.specs.Option.{option_and_then, option_or, option_map}

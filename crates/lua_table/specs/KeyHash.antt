@@ -1,5 +1,5 @@
 -- What the hasher of keys computes. No contract of the table cites it.
-use Rattle.std.specs.Prelude.{ℕ, ◌+◌, ◌*◌, ◌/◌, ◌%◌, ◌^◌, List, [], ◌∷◌, fold, length, reverse, nat_le, if◌then◌else◌}
+use Rattle.std.specs.Prelude.{ℕ, ◌+◌, ◌*◌, ◌/◌, ◌%◌, ◌^◌, List, fold, length, reverse, nat_le, if◌then◌else◌}
 
 -- the state after one number
 unfoldable pub stepped : ℕ → ℕ → ℕ

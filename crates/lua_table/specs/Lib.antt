@@ -1,3 +1,4 @@
+pub mod Gaps
 pub mod KeyHash
 pub mod Places
 pub mod Table

@@ -1,8 +1,6 @@
 -- A Lua table as the list of its places, in the order in which their keys first got a value: each key with its value,
 -- or with none where it was cleared.
 use Rattle.std.specs.Prelude.{ℕ, zero, suc, ◌+◌, ◌≤◌, Bool, true, false, List, [], ◌∷◌, length, Option, None, Some, Result, Ok, Err, if◌then◌else◌, IsSome, IsNone, is_some}
-use Rattle.std.specs.List.{IsDistinct}
-use Rattle.std.specs.Map.{keys_of}
 use Rattle.std.specs.Option.{option_and_then, option_map_or}
 use Rattle.lua_table.specs.declared.table.NoSuchKey.{NoSuchKey}
 
@@ -72,8 +70,3 @@ module _ {K V : Type 0} (same : K → K → Bool) where
     pub record IsLeastBorder (places : Places K V) (n : ℕ) : Type 0 where
       pub filled : IsFilledTo places n
       pub open_after : IsNone (value_at places (n + 1))
-
-    -- what a table is: no two places of equal keys, and the least border beside them
-    pub record IsTable (places : Places K V) (n : ℕ) : Type 0 where
-      pub distinct : IsDistinct same (keys_of places)
-      pub border : IsLeastBorder places n

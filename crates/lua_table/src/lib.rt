@@ -1,6 +1,8 @@
 //! Tables of Lua: places in the order in which their keys first got a value, and the least border.
 #![tactic(auto)]
 
+mod border;
+mod gaps;
 mod key_hasher;
 mod keys;
 mod places;

@@ -4,7 +4,6 @@ ghost use Rattle.std.specs.Prelude.{◌≡◌, ◌+◌, ◌^◌, ◌<◌, ◌≤
 ghost use Rattle.std.specs.Map.Iter.{deref_pair};
 ghost use Rattle.std.specs.Option.{option_map, option_copied};
 ghost use Rattle.lua_table.specs.Table as table;
-ghost use Rattle.lua_table.specs.Table.{IsFilledTo, IsLeastBorder};
 
 use crate::Position;
 use crate::keys::Keys;
@@ -47,6 +46,14 @@ impl<K: Position + Hash, V> Places<K, V> {
         ensures small { result < 2 ^ 63 }
     {
         self.keys.len()
+    }
+
+    // Whether a key has a place.
+    #[inline]
+    pub(crate) fn has(&self, key: &K) -> bool
+        ensures { result ≡ table.has_place K.eq self.now key.now }
+    {
+        self.keys.find(key).is_some()
     }
 
     // The value of a key, where it has one.
@@ -151,20 +158,4 @@ impl<K: Position + Hash, V> Places<K, V> {
         }
         None
     }
-}
-
-// The least border, where the positions up to `filled` are known to have values.
-pub(crate) fn border_from<K: Position + Hash + Drop, V>(places: &Places<K, V>, filled: u64) -> u64
-    requires { IsFilledTo K.eq K.at_position places.now filled }
-    ensures { IsLeastBorder K.eq K.at_position places.now result }
-{
-    // No more positions have values than there are places.
-    let _most = places.len();
-    let mut end = filled;
-    while let Some(next) = K::at(end + 1)
-        && places.get(&next).is_some()
-    {
-        end += 1;
-    }
-    end
 }

@@ -9,7 +9,8 @@ ghost use Rattle.lua_table.specs.Table as table;
 ghost use Rattle.lua_table.specs.Table.{IsLeastBorder};
 
 use crate::Position;
-use crate::places::{Places, border_from};
+use crate::border::Border;
+use crate::places::Places;
 use love_base::Memory;
 use std::alloc::Global;
 use std::hash::Hash;
@@ -23,17 +24,21 @@ pub struct NoSuchKey;
 #[derive(Debug, Drop)]
 pub struct Table<K: Position + Hash, V> {
     places: Places<K, V>,
-    border: u64,
+    border: Border,
 }
 
 impl<K: Position + Hash, V> Model for Table<K, V> {
-    ghost use Rattle.lua_table.specs.Table.{Places, IsTable};
+    ghost use Rattle.std.specs.List.{IsDistinct};
+    ghost use Rattle.std.specs.Map.{keys_of};
+    ghost use Rattle.lua_table.specs.Gaps.{IsBordered};
+    ghost use Rattle.lua_table.specs.Table.{Places};
 
     ghost Value = { Places K V };
 
     ghost view = { λ t. t.places };
 
-    ghost invariant = { λ t. IsTable K.eq K.at_position t.places t.border };
+    ghost invariant = { λ t. IsDistinct K.eq (keys_of t.places)
+        × IsBordered K.eq K.at_position t.places t.border.reached t.border.gaps };
 }
 
 impl<K: Position + Hash + Drop, V: Drop> Table<K, V> {
@@ -43,7 +48,7 @@ impl<K: Position + Hash + Drop, V: Drop> Table<K, V> {
     {
         Table {
             places: Places::new(alloc),
-            border: 0,
+            border: Border::new(alloc),
         }
     }
 
@@ -58,8 +63,7 @@ impl<K: Position + Hash + Drop, V: Drop> Table<K, V> {
     /// Gives `key` a value. A key that was set before keeps its place and takes no memory, a new
     /// one goes last.
     ///
-    /// Expected constant time; where this closes the first gap, the time also grows with the values
-    /// right behind it.
+    /// Expected time in the logarithm of the count of keys at most, on average over all calls.
     ///
     /// # Errors
     ///
@@ -71,19 +75,20 @@ impl<K: Position + Hash + Drop, V: Drop> Table<K, V> {
         ensures placed { IsTrue (table.has_place K.eq self.old key) → IsOk result }
         ensures distinct { IsDistinct K.eq (keys_of self.new) }
     {
-        let position = key.position();
-        self.places.set(key, value)?;
-        match position {
-            Some(n) if n - 1 == self.border => self.border = border_from(&self.places, n),
-            // The proof asks for an arm of its own where there is no position.
-            Some(_) => {}
-            None => {}
+        match key.position() {
+            Some(n) => {
+                let end = self.border.make_room(&self.places, n)?;
+                self.places.set(key, value)?;
+                self.border.fill(n);
+                self.border.reach(&self.places, end);
+            }
+            None => self.places.set(key, value)?,
         }
         Ok(())
     }
 
     /// Takes the value of `key` away, if it has one. The key keeps its place. Takes no memory,
-    /// expected constant time.
+    /// expected time in the logarithm of the count of keys at most.
     #[inline]
     pub fn clear_key(&mut self, key: &K)
         ensures cleared { self.new ≡ table.clear_key K.eq self.old key.now }
@@ -91,8 +96,7 @@ impl<K: Position + Hash + Drop, V: Drop> Table<K, V> {
     {
         self.places.clear(key);
         match key.position() {
-            Some(n) if n <= self.border => self.border = n - 1,
-            Some(_) => {}
+            Some(n) => self.border.empty(n),
             None => {}
         }
     }
@@ -128,6 +132,6 @@ impl<K: Position + Hash + Drop, V: Drop> Table<K, V> {
         ensures least { IsLeastBorder K.eq K.at_position self.now result }
         ensures distinct { IsDistinct K.eq (keys_of self.now) }
     {
-        self.border
+        self.border.least()
     }
 }

@@ -73,6 +73,26 @@ fn took(table: &mut Table<Key, u32>, step: Step) -> bool {
     }
 }
 
+// The border after a step, which was taken.
+fn border_after(table: &mut Table<Key, u32>, step: Step) -> Option<u64> {
+    if took(table, step) {
+        Some(table.border())
+    } else {
+        None
+    }
+}
+
+// A table with values at the positions up to a number.
+fn filled_to(alloc: Global, count: u32) -> Option<Table<Key, u32>> {
+    let mut table = Table::new(alloc);
+    for n in 0..count {
+        if !took(&mut table, Step::Set(Whole(n as i64 + 1), 1)) {
+            return None;
+        }
+    }
+    Some(table)
+}
+
 #[test]
 fn the_border_is_the_count_up_to_the_first_gap(rt: HostRuntime) {
     let mut table = Table::new(rt.alloc());
@@ -92,8 +112,62 @@ fn the_border_is_the_count_up_to_the_first_gap(rt: HostRuntime) {
         (Step::Clear(Whole(4)), 3),
         (Step::Clear(Whole(1)), 0),
     ] {
-        assert!(rt; took(&mut table, step), "{step:?}");
-        assert_eq!(rt; table.border(), border, "after {step:?}");
+        assert_eq!(rt;
+            border_after(&mut table, step),
+            Some(border),
+            "after {step:?}"
+        );
+    }
+}
+
+#[test]
+fn positions_come_in_any_order(rt: HostRuntime) {
+    for (positions, borders) in [
+        // falling
+        ([5i64, 4, 3, 2, 1], [0u64, 0, 0, 0, 5]),
+        // from the middle
+        ([3, 2, 4, 1, 5], [0, 0, 0, 4, 5]),
+        // the first one last
+        ([2, 3, 4, 5, 1], [0, 0, 0, 0, 5]),
+        // in pairs
+        ([2, 1, 4, 3, 5], [0, 2, 2, 4, 5]),
+    ] {
+        let mut table = Table::new(rt.alloc());
+        for at in 0..5 {
+            let step = Step::Set(Whole(positions[at]), 1);
+            assert_eq!(rt;
+                border_after(&mut table, step),
+                Some(borders[at]),
+                "{positions:?}: after {step:?}"
+            );
+        }
+    }
+}
+
+// Gaps on both sides of the ends of blocks and of what there was room for.
+#[test]
+fn a_closed_gap_shows_the_next(rt: HostRuntime) {
+    let mut table = filled_to(rt.alloc(), 5_000).expect(&rt, "memory");
+    for (step, border) in [
+        (Step::Clear(Whole(4_097)), 4_096),
+        (Step::Clear(Whole(64)), 63),
+        (Step::Clear(Whole(65)), 63),
+        (Step::Clear(Whole(5_000)), 63),
+        (Step::Set(Whole(64), 2), 64),
+        (Step::Set(Whole(65), 2), 4_096),
+        (Step::Set(Whole(4_097), 2), 4_999),
+        (Step::Set(Whole(5_000), 2), 5_000),
+        (Step::Clear(Whole(4_096)), 4_095),
+        (Step::Clear(Whole(1)), 0),
+        (Step::Set(Whole(1), 2), 4_095),
+        (Step::Set(Whole(5_001), 2), 4_095),
+        (Step::Set(Whole(4_096), 2), 5_001),
+    ] {
+        assert_eq!(rt;
+            border_after(&mut table, step),
+            Some(border),
+            "after {step:?}"
+        );
     }
 }
 
@@ -328,27 +402,43 @@ fn fills_in_order(
     Ok(right)
 }
 
+// Whether the seven positions behind `before`, once taken away, close in the order of this number.
+fn closes_in_order(
+    alloc: Global,
+    table: &mut Table<Key, u32>,
+    before: u32,
+    order: usize,
+) -> Result<bool, AllocError> {
+    let mut right = true;
+    for n in 0..7 {
+        let step = Step::Clear(Whole(before as i64 + n + 1));
+        right = right && border_after(table, step) == Some(before as u64);
+    }
+    Ok(right && fills_in_order(alloc, table, before, order)?)
+}
+
+#[test]
+fn positions_fill_in_every_order(rt: HostRuntime) -> Result<(), Fail> {
+    for order in 0..5_040 {
+        let mut table = Table::new(rt.alloc());
+        assert!(rt;
+            fills_in_order(rt.alloc(), &mut table, 0, order)?,
+            "{order}"
+        );
+    }
+    Ok(())
+}
+
 #[test]
 fn gaps_close_in_every_order(rt: HostRuntime) -> Result<(), Fail> {
-    for before in [0u32, 60] {
-        for order in 0..5_040 {
-            let mut table = Table::new(rt.alloc());
-            for n in 0..before {
-                assert!(rt; took(&mut table, Step::Set(Whole(n as i64 + 1), 1)), "{n}");
-            }
-            assert!(rt;
-                fills_in_order(rt.alloc(), &mut table, before, order)?,
-                "{before}: {order}"
-            );
-            for n in 0..7 {
-                table.clear_key(&Whole(before as i64 + n + 1));
-            }
-            assert_eq!(rt; table.border(), before as u64);
-            assert!(rt;
-                fills_in_order(rt.alloc(), &mut table, before, order)?,
-                "{before}: {order} again"
-            );
-        }
+    // The seven stand across the end of a block.
+    let before = 60;
+    let mut table = filled_to(rt.alloc(), before + 7).expect(&rt, "memory");
+    for order in 0..5_040 {
+        assert!(rt;
+            closes_in_order(rt.alloc(), &mut table, before, order)?,
+            "{order}"
+        );
     }
     Ok(())
 }
@@ -356,9 +446,9 @@ fn gaps_close_in_every_order(rt: HostRuntime) -> Result<(), Fail> {
 // Keys that are refused once where a request for memory is.
 #[test]
 fn a_refused_set_changes_nothing(rt: HostRuntime) -> Result<(), Fail> {
-    let mut pairs = Vec::with_capacity(rt.alloc(), 60)?;
+    let mut pairs = Vec::with_capacity(rt.alloc(), 200)?;
     let mut table = Table::new(rt.alloc());
-    for n in 0..60u32 {
+    for n in 0..200u32 {
         let key = match n % 4 {
             0 => Whole(n as i64 * 1_000),
             1 => Text(n),
@@ -384,7 +474,9 @@ fn a_table_shows_its_places(rt: HostRuntime) -> Result<(), Fail> {
     assert_eq!(rt;
         text.as_str(),
         "Table { places: Places { keys: Keys { keys: [Whole(1)], listed: [1], hashed: {}, \
-         astray: false }, values: [Some(10)] }, border: 1 }"
+         astray: false }, values: [Some(10)] }, border: Border { reached: 1, gaps: Gaps { \
+         flags: [false, false, false, false, false, false, false, false], \
+         tree: [4294967295, 4294967295], alloc: Global } } }"
     );
     Ok(())
 }

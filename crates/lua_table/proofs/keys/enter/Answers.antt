@@ -1,4 +1,4 @@
-use Rattle.std.proofs.Common.{◌≡◌, ℕ, ◌<◌, true, false, cond, eqb, length, Some, sym, ap, ◌∙◌, is_some, true≢false, arith}
+use Rattle.std.proofs.Common.{◌≡◌, ℕ, ◌<◌, false, cond, eqb, length, Some, sym, ap, ◌∙◌, is_some, true≢false, arith}
 use Rattle.std.specs.Map.{lookup}
 use Rattle.lua_table.proofs.BorderLemmas.{Lawful}
 use Rattle.lua_table.proofs.KeysLemmas.{AreFound-listed, AreFound-first, AreFound-hashed}

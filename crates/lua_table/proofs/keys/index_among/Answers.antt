@@ -1,4 +1,4 @@
-use Rattle.std.proofs.Common.{◌≡◌, true, Some, length, slice_get, sym, ◌∙◌, refl, arith}
+use Rattle.std.proofs.Common.{length, sym, ◌∙◌, refl, arith}
 use Rattle.std.proofs.lemmas.Option.{slice_get_read}
 use Rattle.lua_table.proofs.KeysLemmas.{index_of-here, index_of-nowhere, apart-more}
 use Rattle.lua_table.proofs.keys.index_among.Goals as goal

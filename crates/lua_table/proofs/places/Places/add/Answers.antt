@@ -1,4 +1,4 @@
-use Rattle.std.proofs.Common.{◌∷◌, [], ◌++◌, sym, ap, ◌∙◌}
+use Rattle.std.proofs.Common.{◌∷◌, [], ◌++◌, ap, ◌∙◌}
 use Rattle.std.specs.List.{zip}
 use Rattle.lua_table.specs.Table.{set, has_place}
 use Rattle.lua_table.proofs.PlacesLemmas.{absent-by, set-absent}
