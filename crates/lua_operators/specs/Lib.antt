@@ -1,0 +1,4 @@
+pub mod Faults
+pub mod Doing
+pub mod Events
+pub mod Answers
