@@ -13,7 +13,7 @@ source "$bench/../lay.sh"
 
 choose_folder "$@"
 command -v lua5.1 >/dev/null || complain 125 "lua5.1, Debian's package of Lua 5.1, isn't on PATH"
-lay 'heap_bench: lua_heap lua_value anyhow' love_base lua_value lua_table lua_token lua_tree variant lua_meaning lua_heap
+lay 'heap_bench: love_base lua_heap lua_value anyhow' love_base lua_value lua_table lua_token lua_tree variant lua_meaning lua_heap
 rt run -- 1 1 >"$folder/build.log" 2>&1 || {
     cat "$folder/build.log"
     exit 1
