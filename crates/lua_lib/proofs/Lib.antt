@@ -8,3 +8,9 @@ pub mod Ascending
 pub mod Sorting
 pub mod BaseDigits
 pub mod Selecting
+pub mod Binding
+pub mod Running
+pub mod Fields
+pub mod Calling
+pub mod Reading
+pub mod Outstanding

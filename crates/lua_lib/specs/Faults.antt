@@ -3,7 +3,7 @@ use Rattle.std.specs.Prelude.{Option, None, Some, codes, ⊤}
 use Rattle.lua_meaning.specs.Fault.{Fault as Error, improper, says}
 use Rattle.lua_meaning.specs.Arguments.{Lib}
 use Rattle.lua_lib.specs.declared.fault.Fault.{Fault}
-use Rattle.lua_lib.specs.declared.fault.Fault.TheVariants.{IndexOutOfRange, BaseOutOfRange, NoByte, Negative, NotWhole, OutOfRange, StringTooLong, TooManyValues, PatternsNotAvailable, InvalidFormat, Memory}
+use Rattle.lua_lib.specs.declared.fault.Fault.TheVariants.{IndexOutOfRange, BaseOutOfRange, NoByte, Negative, NotWhole, OutOfRange, StringTooLong, TooManyValues, PatternsNotAvailable, InvalidFormat, NoSuchKey, KeyIsNil, Memory}
 use Rattle.lua_lib.specs.Outcome.{Raises}
 
 -- the error of a fault; want of memory is none that the definitions have
@@ -18,6 +18,8 @@ fault_error StringTooLong = Some (says (codes "string too long"))
 fault_error TooManyValues = Some (says (codes "too many values"))
 fault_error PatternsNotAvailable = Some (says (codes "patterns are not available"))
 fault_error InvalidFormat = Some (says (codes "invalid format"))
+fault_error NoSuchKey = Some (improper 1 (codes "no such key"))
+fault_error KeyIsNil = Some (says (codes "table index is nil"))
 fault_error Memory = None
 
 -- a function raises an error, where there is one

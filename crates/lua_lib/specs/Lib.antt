@@ -4,3 +4,6 @@ pub mod Faults
 pub mod Signed
 pub mod Width
 pub mod Items
+pub mod Causes
+pub mod Runs
+pub mod Here

@@ -31,6 +31,10 @@ pub enum Fault {
     PatternsNotAvailable,
     /// An item that `string.format` doesn't have.
     InvalidFormat,
+    /// `next` goes on behind a key that was never set.
+    NoSuchKey,
+    /// nil as the key of a value.
+    KeyIsNil,
     /// Want of memory.
     Memory,
 }

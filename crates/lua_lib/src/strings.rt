@@ -1,7 +1,7 @@
 //! The functions of `string` (Lua 5.1 manual §5.4). Bytes have the places 1, 2, 3 and so on; a
 //! negative place counts from the end.
 
-ghost use Rattle.std.specs.Prelude.{◌≡◌, ◌≤◌, [], ◌∷◌, map, reverse, length, codes, IfOk, IfErr};
+ghost use Rattle.std.specs.Prelude.{◌≡◌, ◌≤◌, [], ◌∷◌, map, reverse, length, codes, IfOk, IfErr, OnOk};
 ghost use Rattle.lua_meaning.specs.Value.{num, str, flag};
 ghost use Rattle.lua_meaning.specs.Text.{longest_string};
 ghost use Rattle.lua_meaning.specs.Strings as meaning;
@@ -82,6 +82,21 @@ pub fn char_byte(argument: usize, number: Num) -> Result<u8, Fault>
         Signed::Plus(code) if code < 256 => Ok(code as u8),
         _ => Err(Fault::NoByte(argument)),
     }
+}
+
+/// Whether a string may be as long as a text is.
+///
+/// # Errors
+///
+/// [`Fault::StringTooLong`] where it has over 16,777,216 bytes.
+pub fn check_length(text: &[u8]) -> Result<(), Fault>
+    ensures ok { OnOk result (Gives (meaning.string_value text.now) (str text.now ∷ [])) }
+    ensures fault { IfErr result (FailsBy (meaning.string_value text.now)) }
+{
+    if text.len() > LONGEST {
+        return Err(Fault::StringTooLong);
+    }
+    Ok(())
 }
 
 /// A text that was made, as a string.

@@ -1,0 +1,72 @@
+//! Why a function of the library gives no values.
+
+ghost use Rattle.std.specs.Prelude.{◌≡◌};
+ghost use Rattle.lua_lib.specs.declared.fault.Fault.TheVariants.{Memory as WantOfMemory};
+ghost use Rattle.lua_lib.specs.declared.call.cause.Cause.{Cause};
+ghost use Rattle.lua_lib.specs.declared.call.cause.Cause.TheVariants.{By};
+ghost use Rattle.lua_lib.specs.Causes.{expected_text};
+
+use crate::Fault;
+use love_base::Memory;
+use lua_heap::Value;
+
+/// What is wanted of an argument.
+#[derive(Clone, Copy, Debug, PartialEq, Eq)]
+pub enum Expected {
+    Number,
+    Text,
+    Table,
+    Data,
+    FileData,
+    Object,
+}
+
+impl Expected {
+    /// Its name in errors.
+    pub fn text(self) -> &'static [u8]
+        ensures { result.now ≡ expected_text self }
+    {
+        match self {
+            Expected::Number => b"number",
+            Expected::Text => b"string",
+            Expected::Table => b"table",
+            Expected::Data => b"Data",
+            Expected::FileData => b"FileData",
+            Expected::Object => b"Object",
+        }
+    }
+}
+
+/// Why a function gives no values.
+#[derive(Clone, Copy, Debug, PartialEq, Eq)]
+pub enum Cause {
+    /// An argument, counted from 0, that isn't what is wanted.
+    Wants(usize, Expected, Value),
+    /// A fault of the function itself.
+    By(Fault),
+}
+
+/// Why a call gives no values.
+#[derive(Clone, Copy, Debug, PartialEq, Eq)]
+pub enum LibFault {
+    /// The function fails.
+    Fails(Cause),
+    /// The function isn't one of this crate.
+    Elsewhere,
+}
+
+impl From<Fault> for Cause {
+    ghost from_gives = { λ fault cause. cause ≡ By fault };
+
+    fn from(fault: Fault) -> Cause {
+        Cause::By(fault)
+    }
+}
+
+impl From<Memory> for Cause {
+    ghost from_gives = { λ _ cause. cause ≡ By WantOfMemory };
+
+    fn from(_refused: Memory) -> Cause {
+        Cause::By(Fault::Memory)
+    }
+}

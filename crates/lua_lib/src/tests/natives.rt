@@ -1,0 +1,169 @@
+use crate::Fault;
+use crate::call::{Cause, Expected, LibFault, call};
+use love_base::Data;
+use lua_heap::{Heap, Native, Value};
+use lua_value::Num;
+use std::alloc::Global;
+use std::test::Fail;
+
+fn num(n: i64) -> Value {
+    match Num::new(n) {
+        Some(n) => Value::Num(n),
+        None => Value::Nil,
+    }
+}
+
+fn text(heap: &mut Heap, bytes: &[u8]) -> Value {
+    match heap.intern(bytes) {
+        Ok(id) => Value::Str(id),
+        Err(_) => Value::Nil,
+    }
+}
+
+// What a function gives for three arguments that the heap made.
+fn given(
+    alloc: Global,
+    heap: &mut Heap,
+    native: Native,
+    a: &Value,
+    b: &Value,
+    c: &Value,
+) -> Result<Vec<Value>, LibFault> {
+    if !heap.is_made(*a) || !heap.is_made(*b) || !heap.is_made(*c) {
+        return Err(LibFault::Elsewhere);
+    }
+    let args = [*a, *b, *c];
+    call(alloc, heap, native, &args)
+}
+
+// A function, two arguments, and the one value that it gives.
+#[test]
+fn numbers(rt: HostRuntime) -> Result<(), Fail> {
+    let mut heap = Heap::new(rt.alloc()).map_err(|_| "no heap")?;
+    let rows = [
+        (Native::MathAbs, -7, 2, 7),
+        (Native::MathCeil, -7, 2, -7),
+        (Native::MathFloor, -7, 2, -7),
+        (Native::MathFmod, -7, 2, -1),
+        (Native::MathMax, -7, 2, 2),
+        (Native::MathMin, -7, 2, -7),
+        (Native::MathPow, -7, 2, 49),
+        (Native::StringLen, -12, 2, 3),
+        (Native::CollectGarbage, 1, 1, 0),
+    ];
+    for (native, a, b, wanted) in rows {
+        let found = given(rt.alloc(), &mut heap, native, &num(a), &num(b), &num(-9));
+        let found = found.map_err(|_| "a fault")?;
+        assert_eq!(rt; found.as_slice(), [num(wanted)].as_slice(), "{native:?}");
+    }
+    Ok(())
+}
+
+#[test]
+fn texts(rt: HostRuntime) -> Result<(), Fail> {
+    let mut heap = Heap::new(rt.alloc()).map_err(|_| "no heap")?;
+    let word = &text(&mut heap, b"aBc");
+    let rows: [(Native, &[u8]); 6] = [
+        (Native::StringLower, b"abc"),
+        (Native::StringUpper, b"ABC"),
+        (Native::StringReverse, b"cBa"),
+        (Native::StringRep, b"aBcaBc"),
+        (Native::StringSub, b"Bc"),
+        (Native::TypeName, b"string"),
+    ];
+    for (native, wanted) in rows {
+        let found = given(rt.alloc(), &mut heap, native, word, &num(2), &num(3));
+        let found = found.map_err(|_| "a fault")?;
+        let wanted = text(&mut heap, wanted);
+        assert_eq!(rt; found.as_slice(), [wanted].as_slice(), "{native:?}");
+    }
+    Ok(())
+}
+
+// A table whose field is set to 5, read and walked.
+#[test]
+fn tables(rt: HostRuntime) -> Result<(), Fail> {
+    let mut heap = Heap::new(rt.alloc()).map_err(|_| "no heap")?;
+    let table = &Value::Table(heap.new_table().map_err(|_| "no table")?);
+    let nil = &Value::Nil;
+    let zero = &num(0);
+    let one = &num(1);
+    let five = &num(5);
+    let walk = &Value::Native(Native::IpairsWalk);
+    let next = &Value::Native(Native::Next);
+    let rows: [(Native, &Value, &[Value]); 12] = [
+        (Native::RawGet, one, &[Value::Nil]),
+        (Native::Next, nil, &[Value::Nil]),
+        (Native::IpairsWalk, zero, &[]),
+        (Native::RawSet, one, &[*table]),
+        (Native::RawGet, one, &[*five]),
+        (Native::Next, nil, &[*one, *five]),
+        (Native::Next, one, &[Value::Nil]),
+        (Native::IpairsWalk, zero, &[*one, *five]),
+        (Native::Ipairs, one, &[*walk, *table, *zero]),
+        (Native::Pairs, one, &[*next, *table, Value::Nil]),
+        (Native::RawEqual, table, &[Value::Bool(true)]),
+        (Native::LoveEventPump, one, &[]),
+    ];
+    for (native, key, wanted) in rows {
+        let found = given(rt.alloc(), &mut heap, native, table, key, five);
+        let found = found.map_err(|_| "a fault")?;
+        assert_eq!(rt; found.as_slice(), wanted, "{native:?}");
+    }
+    Ok(())
+}
+
+#[test]
+fn data(rt: HostRuntime) -> Result<(), Fail> {
+    let mut heap = Heap::new(rt.alloc()).map_err(|_| "no heap")?;
+    let content = Data::new(rt.alloc(), b"abc", None).map_err(|_| "no data")?;
+    let data = &Value::Data(heap.add_data(content).map_err(|_| "no data")?);
+    let name = &text(&mut heap, b"Data");
+    let abc = &text(&mut heap, b"abc");
+    let own = &text(&mut heap, b"ByteData");
+    let rows: [(Native, &Value); 4] = [
+        (Native::DataGetSize, &num(3)),
+        (Native::DataGetString, abc),
+        (Native::ObjectType, own),
+        (Native::ObjectTypeOf, &Value::Bool(true)),
+    ];
+    for (native, wanted) in rows {
+        let found = given(rt.alloc(), &mut heap, native, data, name, name);
+        let found = found.map_err(|_| "a fault")?;
+        assert_eq!(rt; found.as_slice(), [*wanted].as_slice(), "{native:?}");
+    }
+    Ok(())
+}
+
+// A field for nil, a key that was never set, an argument of the wrong type, a function of the
+// machine.
+#[test]
+fn faults(rt: HostRuntime) -> Result<(), Fail> {
+    let mut heap = Heap::new(rt.alloc()).map_err(|_| "no heap")?;
+    let table = &Value::Table(heap.new_table().map_err(|_| "no table")?);
+    let nil = &Value::Nil;
+    let one = &num(1);
+    let rows: [(Native, &Value, LibFault); 4] = [
+        (
+            Native::RawSet,
+            nil,
+            LibFault::Fails(Cause::By(Fault::KeyIsNil)),
+        ),
+        (
+            Native::Next,
+            one,
+            LibFault::Fails(Cause::By(Fault::NoSuchKey)),
+        ),
+        (
+            Native::MathAbs,
+            one,
+            LibFault::Fails(Cause::Wants(0, Expected::Number, *table)),
+        ),
+        (Native::Print, one, LibFault::Elsewhere),
+    ];
+    for (native, key, wanted) in rows {
+        let found = given(rt.alloc(), &mut heap, native, table, key, one);
+        assert!(rt; found == Err(wanted), "{native:?}");
+    }
+    Ok(())
+}
