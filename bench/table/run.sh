@@ -1,8 +1,7 @@
 #!/usr/bin/env bash
 # Times a table beside Lua 5.1's at 100,000 and at 1,000,000 keys, and slots that are freed and filled again also at 1,000
 # and 10,000, each workload's least time of several runs. Fails where a table takes over one and a half times Lua's time, or
-# ten times the keys over forty times as long: at 1,000,000 keys a table is larger than most caches, so a key takes two or
-# three times as long there, and a quadratic workload a hundred times.
+# ten times the keys over twelve times as long.
 #
 # Other work on the machine empties the caches and shares the processors: the load is shown before and after.
 #
@@ -40,7 +39,7 @@ failed=0
 } | awk '
     { ratio = $3 / $4 }
     { growth = ($2 in before) ? $3 / before[$2] : 0; before[$2] = $3 }
-    { late = ratio > 1.5 || growth > 40; over = over || late }
+    { late = ratio > 1.5 || growth > 12; over = over || late }
     { printf "%8d %-13s %9.3f ms, in Lua %9.3f ms: %5.2f times%s%s\n", $1, $2, $3 / 1e6, $4 / 1e6, ratio,
         growth ? sprintf(", grown %4.1f times", growth) : "", late ? "  FAIL" : "" }
     END { exit over }' || failed=1

@@ -1,6 +1,6 @@
 -- Which positions are vacant among those that have had a value, and what a table's least border is by them. No contract of the
 -- table cites it.
-use Rattle.std.specs.Prelude.{◌≡◌, ◌≢◌, ℕ, ◌+◌, ◌*◌, ◌/◌, ◌<◌, ◌≤◌, Bool, true, false, List, length, slice_index, slice_index_or, Option, is_none}
+use Rattle.std.specs.Prelude.{◌≡◌, ◌≢◌, ℕ, ◌+◌, ◌*◌, ◌/◌, ◌^◌, ◌<◌, ◌≤◌, Bool, true, false, List, length, slice_index, slice_index_or, Option, is_none}
 use Rattle.std.specs.Option.{option_map_or}
 use Rattle.lua_table.specs.Table.{Places, has_place, value_at}
 
@@ -36,7 +36,7 @@ leaves tree = length tree / 2
 pub record IsTree (flags : List Bool) (tree : List ℕ) : Type 0 where
   pub even : length tree ≡ 2 * leaves tree
   pub blocks : length flags ≡ 8 * leaves tree
-  pub small : length flags ≤ 2147483648
+  pub small : length flags ≤ 2 ^ 31
   pub node : (i : ℕ) → 1 ≤ i → i < leaves tree → IsNode tree i
   pub leaf : (block : ℕ) → block < leaves tree → IsFirst flags block (slice_index tree (leaves tree + block))
 

@@ -4,14 +4,11 @@ ghost use Rattle.std.specs.Prelude.{◌≡◌, ◌≢◌, ℕ, ◌+◌, ◌<◌,
 ghost use Rattle.lua_table.specs.Gaps.{has_gap, had, vacant};
 
 use crate::Position;
-use crate::gaps::Gaps;
+use crate::gaps::{Gaps, MOST_ROOM};
 use crate::places::Places;
 use love_base::Memory;
 use std::alloc::Global;
 use std::hash::Hash;
-
-// How far a run of positions that have had values is followed.
-const MOST_REACHED: u64 = 1 << 31;
 
 // The least border of a table, by the positions without a value among the first ones that have had
 // one.
@@ -165,7 +162,7 @@ fn run_end<K: Position + Hash + Drop, V>(places: &Places<K, V>, from: u64) -> Re
         → had K.eq K.at_position places.now k ≡ true) }
     ensures ended { IfOk result (λ end. had K.eq K.at_position places.now (end + 1) ≡ false) }
 {
-    for end in from..MOST_REACHED {
+    for end in from..MOST_ROOM as u64 {
         if !had_value(places, end + 1) {
             return Ok(end);
         }

@@ -11,7 +11,7 @@ use std::marker::Model;
 const BLOCK: usize = 8;
 
 // Room for more numbers is refused.
-const MOST_ROOM: usize = 1 << 31;
+pub(crate) const MOST_ROOM: usize = 1 << 31;
 
 // Stands for no number.
 const NONE: u32 = 0xffff_ffff;
@@ -68,7 +68,7 @@ impl Gaps {
     #[inline]
     pub(crate) fn room(&self) -> usize
         ensures room { result ≡ length self.now }
-        ensures most { result ≤ 2147483648 }
+        ensures most { result ≤ 2 ^ 31 }
     {
         self.flags.len()
     }
@@ -118,6 +118,9 @@ impl Gaps {
             has_gap self.new k ≡ (if k == number then is_in else has_gap self.old k) }
         ensures room { length self.new ≡ length self.old }
     {
+        if self.flags[number] == is_in {
+            return;
+        }
         self.flags[number] = is_in;
         let block = number / BLOCK;
         let leaf = self.tree.len() / 2 + block;
@@ -153,7 +156,7 @@ impl Gaps {
 // The first number of a block whose flag is set, or none.
 fn first_of_block(flags: &[bool], block: usize) -> u32
     requires within { 8 * block + 8 ≤ length flags.now }
-    requires small { length flags.now ≤ 2147483648 }
+    requires small { length flags.now ≤ 2 ^ 31 }
     ensures { IsFirst flags.now block result }
 {
     let start = BLOCK * block;
