@@ -25,9 +25,11 @@ enum Call {
     End(u32, u32),
     /// The place that state 0's end gives.
     MainEnd(u32),
+    /// A Thread, whether it runs, and whether it has an error.
+    Stands(u32, bool, bool),
 }
 
-use Call::{Channel, End, MainEnd, Name, Start, Take, Thread};
+use Call::{Channel, End, MainEnd, Name, Stands, Start, Take, Thread};
 
 fn named(place: u32, channel: u32, changed: bool) -> Named {
     Named {
@@ -84,6 +86,10 @@ fn play(
             assert!(rt; ended.is_none());
             assert_eq!(rt; board.main_end(by), place);
         }
+        Stands(thread, runs, failed) => {
+            assert_eq!(rt; board.running(thread), runs, "Thread {thread}");
+            assert_eq!(rt; board.error_of(thread).is_some(), failed, "Thread {thread}");
+        }
     }
     Ok(())
 }
@@ -115,6 +121,46 @@ fn one_worker(rt: HostRuntime) -> Result<(), Fail> {
     assert_eq!(rt; board.history().len(), 7);
     assert_eq!(rt; board.error_of(1), Some(b"out of steps".as_slice()));
     assert!(rt; !board.running(1) && board.error_of(2).is_none() && board.has_begun(1));
+    Ok(())
+}
+
+// Jobs begin in the order of their starts, also where a state ended before one of them began; and a
+// Thread that starts again loses its error.
+#[test]
+fn two_workers(rt: HostRuntime) -> Result<(), Fail> {
+    let alloc = rt.alloc();
+    let mut board = Board::new(alloc, 2)?;
+    let calls = [
+        Thread(Ok((1, 1))),
+        Thread(Ok((2, 2))),
+        Thread(Ok((3, 3))),
+        Stands(1, false, false),
+        Start(1, Ok((4, 1))),
+        Start(2, Ok((5, 2))),
+        Start(3, Err(BoardFault::TooManyRunning { running: 2 })),
+        Stands(2, true, false),
+        Take(Some(1)),
+        End(1, 7),
+        Stands(1, false, true),
+        Start(3, Ok((8, 3))),
+        Take(Some(2)),
+        Take(Some(3)),
+        Take(None),
+        End(3, 11),
+        Stands(1, false, true),
+        Start(1, Ok((12, 4))),
+        Stands(1, true, false),
+        Stands(3, false, true),
+        Take(Some(4)),
+        End(4, 14),
+        Stands(1, false, true),
+        Stands(4, false, false),
+    ];
+    let mut number: u32 = 1;
+    for call in calls.as_slice() {
+        play(&rt, alloc, &mut board, number, *call)?;
+        number += 1;
+    }
     Ok(())
 }
 
