@@ -14,6 +14,3 @@ pub mod strings;
 pub mod tables;
 
 pub use fault::Fault;
-
-#[cfg(test)]
-mod tests;

@@ -18,8 +18,6 @@ mod fields;
 mod numbers;
 mod operators;
 mod sizes;
-#[cfg(test)]
-mod tests;
 mod texts;
 mod type_name;
 

@@ -1,7 +1,10 @@
 //! Handlers: which one is asked, of what, and what becomes of its result.
 
-use super::*;
-use crate::Use;
+use crate::asked::{field_of, number, of_one, of_two, text};
+use love_base::Memory;
+use lua_heap::{Heap, Native, Value};
+use lua_operators::{Doing, Fault, TypeName, Use};
+use lua_tree::{BinOp, UnOp};
 
 // A table whose metatable has a value for an event.
 fn with_handler(heap: &mut Heap, event: &[u8], handler: &Value) -> Result<Value, Memory> {
@@ -149,13 +152,10 @@ fn handlers_that_are_not_shared(rt: HostRuntime) -> Result<(), Memory> {
     let a = &with_handler(&mut heap, b"__lt", &PRINT)?;
     let b = &with_handler(&mut heap, b"__lt", &NEXT)?;
     let one = &number(1);
-    for (left, right, first, second) in [
-        (a, b, TypeName::Table, TypeName::Table),
-        (a, one, TypeName::Table, TypeName::Number),
-    ] {
-        let found = of_two(rt.alloc(), &mut heap, BinOp::Less, left, right)?;
-        assert!(rt; found == Doing::Fails(Fault::Compare(first, second)));
-    }
+    let tables = of_two(rt.alloc(), &mut heap, BinOp::Less, a, b)?;
+    assert!(rt; tables == Doing::Fails(Fault::Compare(TypeName::Table, TypeName::Table)));
+    let mixed = of_two(rt.alloc(), &mut heap, BinOp::Less, a, one)?;
+    assert!(rt; mixed == Doing::Fails(Fault::Compare(TypeName::Table, TypeName::Number)));
     // `==` asks functions alone.
     let equal = &with_handler(&mut heap, b"__eq", one)?;
     let twin = &with_handler(&mut heap, b"__eq", one)?;

@@ -1,5 +1,5 @@
-use crate::Fault;
-use crate::format::{Directive, Item, put_hexadecimal, put_padded, put_whole, read_directive};
+use lua_lib::Fault;
+use lua_lib::format::{Directive, Item, put_hexadecimal, put_padded, put_whole, read_directive};
 use lua_value::Num;
 use std::alloc::Global;
 use std::test::Fail;

@@ -1,4 +1,4 @@
-use crate::{Fault, strings};
+use lua_lib::{Fault, strings};
 use lua_value::Num;
 use std::test::Fail;
 

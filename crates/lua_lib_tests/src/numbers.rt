@@ -1,4 +1,4 @@
-use crate::{Fault, basic, math};
+use lua_lib::{Fault, basic, math};
 use lua_value::Num;
 use std::test::Fail;
 

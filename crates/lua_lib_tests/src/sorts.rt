@@ -1,4 +1,4 @@
-use crate::tables;
+use lua_lib::tables;
 use lua_value::Num;
 use std::test::Fail;
 
