@@ -2,7 +2,7 @@
 use Rattle.std.specs.Prelude.{◌≡◌, ℕ, suc, ◌+◌, ◌-◌, ◌^◌, ◌<◌, ◌≤◌, max, List, [], length, Option, Some, None, slice_get, unwrap_or, EachIndex, ⊤}
 use Rattle.std.specs.List.{AllByRecursion}
 use Rattle.lua_code.specs.declared.instr.Instr.{Instr}
-use Rattle.lua_code.specs.declared.instr.Instr.TheVariants.{GetCell, SetCell, SetCellConst, NewCell, Close, Tick, Skip, SkipIf, SkipUnless, BackIf, BackUnless, ForBegin, ForNext, EachNext, Leave}
+use Rattle.lua_code.specs.declared.instr.Instr.TheVariants.{GetCell, SetCell, SetCellConst, NewCell, Close, SetItem, SetItemConst, SetRest, Tick, Skip, SkipIf, SkipUnless, BackIf, BackUnless, ForBegin, ForNext, EachNext, Leave}
 use Rattle.lua_code.specs.declared.instr.Site.{Site}
 use Rattle.lua_code.specs.View.{ProtoView}
 use Rattle.lua_code.specs.Within.{IsProto}
@@ -55,13 +55,16 @@ Reaches p cells pc x = Leads p cells (pc + 1)
 -- ---- cells and functions
 
 -- the cells that an instruction uses are there; a new one is among them or the next one. A function that it makes stands
--- in the list before its own, and so do the cells that it holds
+-- in the list before its own, and so do the cells that it holds. Items of a table are numbered from 1
 abbrev pub Uses : List ProtoView → (own cells : ℕ) → Instr → Type 0
 Uses ps own cells (GetCell to cell) = cell < cells
 Uses ps own cells (SetCell cell from) = cell < cells
 Uses ps own cells (SetCellConst cell n) = cell < cells
 Uses ps own cells (NewCell cell from) = cell ≤ cells
 Uses ps own cells (Close to n) = (n < own) × AllByRecursion (λ c. c < cells) (captures_at ps n)
+Uses ps own cells (SetItem table number from) = 0 < number
+Uses ps own cells (SetItemConst table number n) = 0 < number
+Uses ps own cells (SetRest table number) = 0 < number
 Uses ps own cells x = ⊤
 
 -- how many cells there are behind an instruction

@@ -52,7 +52,7 @@ fn are_below(captures: &[u32], cells: usize) -> bool
     true
 }
 
-// Whether the cells and the function that an instruction uses are there.
+// Whether the cells, the function and the numbers of items that an instruction uses are there.
 fn uses(protos: &[Proto], own: usize, cells: usize, instr: Instr) -> bool
     requires own { own ≤ length protos.now }
     ensures { IsTrue result ↔ Uses protos.now own cells instr }
@@ -66,6 +66,9 @@ fn uses(protos: &[Proto], own: usize, cells: usize, instr: Instr) -> bool
             let proto = proto as usize;
             proto < own && are_below(protos[proto].captures().as_slice(), cells)
         }
+        Instr::SetItem { number, .. }
+        | Instr::SetItemConst { number, .. }
+        | Instr::SetRest { number, .. } => number > 0,
         _ => true,
     }
 }

@@ -159,6 +159,37 @@ impl Proto {
         Ok(number)
     }
 
+    /// The name of the file that it comes from.
+    pub fn file(&self) -> &Text
+        ensures { result.now ≡ self.now.file }
+    {
+        &self.file
+    }
+
+    /// How many parameters the function has.
+    #[inline]
+    pub fn params(&self) -> u32
+        ensures { result ≡ self.now.params }
+    {
+        self.params
+    }
+
+    /// Whether extra arguments are kept.
+    #[inline]
+    pub fn is_vararg(&self) -> bool
+        ensures { result ≡ self.now.varargs }
+    {
+        self.varargs
+    }
+
+    /// How many slots a frame of the function has.
+    #[inline]
+    pub fn size(&self) -> usize
+        ensures { result ≡ self.now.size }
+    {
+        self.size
+    }
+
     /// How many instructions there are, in constant time.
     pub fn len(&self) -> usize
         ensures len { result ≡ length self.now.instrs }
@@ -191,6 +222,20 @@ impl Proto {
         ensures { result.now ≡ self.now.instrs }
     {
         &self.instrs
+    }
+
+    /// The sites of the instructions, in their order.
+    pub fn sites(&self) -> &[Site]
+        ensures { result.now ≡ self.now.sites }
+    {
+        &self.sites
+    }
+
+    /// The constants in order.
+    pub fn constants(&self) -> &[Constant]
+        ensures { result.now ≡ self.now.constants }
+    {
+        &self.constants
     }
 
     /// Whether the constants that an instruction names are there.
