@@ -1,0 +1,5 @@
+pub mod Seats
+pub mod Drafts
+pub mod Writing
+pub mod Places
+pub mod Jumps

@@ -1,0 +1,14 @@
+pub mod ListSteps
+pub mod ExprViews
+pub mod Scoping
+pub mod Storing
+pub mod Looping
+pub mod Branching
+pub mod Stating
+pub mod StatViews
+pub mod LocalSteps
+pub mod ExprSteps
+pub mod ExprLists
+pub mod FieldSteps
+pub mod FunctionSteps
+pub mod Chunking

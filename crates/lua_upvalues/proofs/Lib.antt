@@ -1,0 +1,5 @@
+pub mod Parts
+pub mod Views
+pub mod UpvalueSteps
+pub mod Callers
+pub mod Refusals
