@@ -4,7 +4,7 @@ use Rattle.std.proofs.lemmas.List.{length-append}
 use Rattle.lua_tree.specs.Tree as t
 use Rattle.lua_tree.specs.Tree.{Bytes, Expr, Block, Arms}
 use Rattle.lua_tree.specs.declared.tree.Arm.{Arm}
-use Rattle.lua_tree.specs.View.{expr_view, block_view, arm_view, arms_of}
+use Rattle.lua_tree.specs.View.{arm_view, arms_of}
 use Rattle.lua_code.specs.Instr as i
 use Rattle.lua_code.specs.Scope.{Scope, slot_count}
 use Rattle.lua_code.specs.Code.{expr_code, block_code, arms_code, unless_ready, ready_slot, slot_place, skip_over}

@@ -1,16 +1,9 @@
 -- The last expression of a list.
-use Rattle.std.proofs.Common.{◌≡◌, ℕ, zero, suc, ◌+◌, ◌≤◌, ◌<◌, Bool, true, false, List, drop, [], ◌∷◌, length, map, get_or, refl, ap, sym, subst, ◌∙◌, arith}
+use Rattle.std.proofs.Common.{◌≡◌, ℕ, zero, suc, Bool, true, false, List, [], ◌∷◌, length, map, get_or, ap, sym, arith}
 use Rattle.std.specs.Prelude.{if◌then◌else◌}
 use Rattle.lua_tree.specs.declared.tree.Expr.{Expr}
 use Rattle.lua_tree.specs.View.{expr_view, exprs_of}
-use Rattle.lua_tree.specs.Tree.{Bytes}
-use Rattle.lua_code.specs.Instr as i
-use Rattle.lua_code.specs.Scope.{Scope}
-use Rattle.lua_code.specs.Code.{is_many, tailed, count, expr_code, tail_code, exprs_code}
-use Rattle.lua_compile.specs.Lists.{one_or_all}
-use Rattle.std.specs.Prelude.{◌++◌}
-use Rattle.lua_assembler.specs.Writing.{Written, Adds}
-use Rattle.lua_assembler.proofs.Adding.{adds_as, both_added}
+use Rattle.lua_code.specs.Code.{is_many, tailed, count}
 
 pub tailed_at : (es : List Expr) (n : ℕ) (x : Expr) → length es ≡ suc n → x ≡ get_or es n x → tailed (exprs_of (map expr_view es)) ≡ is_many (expr_view x)
 tailed_at [] n x e h = absurd (let z : ⊥ = omega (arith, e) in z)

@@ -19,7 +19,7 @@ use Rattle.lua_code.specs.Code.{stat_code, scope_behind}
 use Rattle.lua_compile.specs.Locals.{TakesBlock, TakesStat}
 use Rattle.lua_assembler.specs.Writing.{Written, Adds}
 use Rattle.lua_compile.proofs.Scoping.{BlockFrom, block_ends}
-use Rattle.lua_upvalues.proofs.Views.{stat_kind_view}
+use Rattle.lua_upvalues.proofs.Callers.{stat_kind_view}
 
 stat_opened : (s : Stat) → stat_view s ≡ stat_kind_view s.what s.line
 stat_opened = fold_out-Stat (ℕ → t.Expr) (t.Fields → t.Fields) (ℕ → t.Stat) (t.Arms → t.Arms) t.Block t.Expr t.Func t.Stat expr_kind_step field_step stat_kind_step arm_step block_step expr_step func_step stat_step

@@ -1,4 +1,4 @@
-use Rattle.std.proofs.Common.{◌≡◌, suc, ◌+◌, ◌-◌, List, ◌∙◌, ap, sym, subst, map, arith, length, zero-add, zero, ◌∷◌, [], ◌<◌, drop, refl}
+use Rattle.std.proofs.Common.{◌≡◌, suc, ◌+◌, ◌-◌, List, ◌∙◌, ap, sym, subst, map, arith, length, zero-add, zero, ◌∷◌, [], drop, refl}
 use Rattle.std.proofs.lemmas.Result.{on_ok_weaker}
 use Rattle.std.specs.Prelude.{false}
 use Rattle.lua_tree.specs.Tree as t
@@ -31,7 +31,7 @@ use Rattle.lua_compile.proofs.Looping.{while_put, while_long, repeat_put, repeat
 use Rattle.lua_compile.proofs.Branching.{arm_put, arms_step}
 use Rattle.lua_tree.specs.declared.tree.Arm.{Arm}
 use Rattle.lua_compile.proofs.Stating.{call_put, local_put, function_stat_put, local_function_put, assign_put, return_put}
-use Rattle.lua_upvalues.proofs.Views.{generic_seen, function_seen as function_stat_seen, if_seen, numeric_seen}
+use Rattle.lua_upvalues.proofs.Callers.{generic_seen, function_seen as function_stat_seen, if_seen, numeric_seen}
 use Rattle.lua_compile.proofs.StatViews.{assign_seen, local_seen, call_seen as call_stat_seen, do_seen, while_seen, repeat_seen, local_function_seen, return_seen, break_seen, arm_opened, stats_put, on_both, takes_plain, takes_seen}
 
 -- ---- expressions, tables and functions

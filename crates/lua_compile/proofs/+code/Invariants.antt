@@ -1,6 +1,6 @@
-use Rattle.std.proofs.Common.{◌≡◌, ◌+◌, ◌*◌, ◌≤◌, max, map, drop, length}
-use Rattle.lua_tree.specs.View.{expr_view, field_view, arm_view, exprs_of, fields_of, arms_of, else_of}
-use Rattle.lua_code.specs.Code.{exprs_code, fields_code, arms_code}
+use Rattle.std.proofs.Common.{◌≡◌, ◌<◌, ◌+◌, ◌*◌, ◌≤◌, max, map, drop, length}
+use Rattle.lua_tree.specs.View.{expr_view, arm_view, exprs_of, arms_of, else_of}
+use Rattle.lua_code.specs.Code.{exprs_code, arms_code}
 use Rattle.lua_assembler.specs.Writing.{Adds, code_of}
 use Rattle.lua_upvalues.specs.Parts.{block_option}
 use Rattle.lua_compile.proofs.Scoping.{BlockFrom}

@@ -1,4 +1,4 @@
-use Rattle.std.proofs.Common.{◌≡◌, ap, sym, ◌∙◌}
+use Rattle.std.proofs.Common.{ap, sym, ◌∙◌}
 use Rattle.std.specs.Prelude.{Some}
 use Rattle.lua_compile.proofs.Storing.{own_there, own_many}
 use Rattle.lua_compile.proofs.assignments.own_slot.Goals as goal

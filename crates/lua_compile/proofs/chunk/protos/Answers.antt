@@ -1,4 +1,4 @@
-use Rattle.std.proofs.Common.{◌≡◌, ◌∙◌, ap, subst, [], ◌∷◌}
+use Rattle.std.proofs.Common.{◌∙◌, ap, subst, []}
 use Rattle.lua_tree.specs.View.{block_view}
 use Rattle.lua_code.specs.Code.{block_code}
 use Rattle.lua_code.specs.Scope.{Scope}
