@@ -1,0 +1,118 @@
+-- A function ends: its results, and what the function that waited gets of them.
+use Rattle.std.proofs.Common.{◌≡◌, ℕ, zero, suc, ◌+◌, ◌-◌, ◌≤◌, List, [], ◌∷◌, ◌++◌, length, take, drop, refl, sym, ap, ◌∙◌, Bool, true, false, arith}
+use Rattle.std.specs.Prelude.{map, not, slice_range}
+use Rattle.lua_tree.specs.Tree.{Bytes}
+use Rattle.lua_meaning.specs.Value as meant
+use Rattle.lua_meaning.specs.Value.{first, flag, is_true}
+use Rattle.lua_meaning.specs.Message.{Ask}
+use Rattle.lua_meaning.specs.World.{given}
+use Rattle.lua_heap.specs.declared.value.Value.{Value}
+use Rattle.lua_heap.specs.declared.value.Value.TheVariants.{Bool as Flag}
+use Rattle.lua_heap.specs.Value.{value_view}
+use Rattle.lua_code.specs.Instr as i
+use Rattle.lua_code.specs.State.{row, put, Registers, Frame as Waiting, Step, on, stop, ended}
+use Rattle.lua_code.specs.Frames.{received, finish}
+use Rattle.lua_code.specs.Act as act
+use Rattle.lua_machine.specs.declared.frame.Wants.{Wants}
+use Rattle.lua_machine.specs.declared.frame.Wants.TheVariants.{ToSlot, TruthTo, UntruthTo, ToTail, Nothing}
+use Rattle.lua_machine.specs.declared.frame.Frame.{Frame}
+use Rattle.lua_machine.specs.View.{EngineView, slots_view, registers_of, run_of, frames_of, state_of, config_of, wants_view}
+use Rattle.lua_machine.specs.Made.{IsEngine}
+use Rattle.lua_machine.specs.Does.{step_of, Did}
+use Rattle.lua_machine.specs.Frames.{resumed, WentOn}
+use Rattle.lua_machine.specs.Ready.{WantsFit}
+use Rattle.lua_machine.specs.Results.{held_at, results_at, tail_where, received_values, truth, WantsOne, LeftOr}
+use Rattle.lua_machine.proofs.Doing.{slots_set}
+use Rattle.lua_machine.proofs.Waiting.{resumed_frames}
+
+-- ---- results
+
+row_later : (texts : List Bytes) (x : Value) (xs : List Value) (n count : ℕ) → row (slots_view texts (x ∷ xs)) (suc n) count ≡ row (slots_view texts xs) n count
+row_later texts x xs n zero = refl
+row_later texts x xs n (suc count) = ap (λ vs. slots_view texts xs n ∷ vs) (row_later texts x xs (suc n) count)
+
+row_taken : (texts : List Bytes) (xs : List Value) (n count : ℕ) → n + count ≤ length xs → map (value_view texts) (take count (drop n xs)) ≡ row (slots_view texts xs) n count
+row_taken texts xs n zero le = refl
+row_taken texts [] n (suc count) le = absurd (let e : ⊥ = omega (arith, le) in e)
+row_taken texts (x ∷ xs) zero (suc count) le = ap (λ vs. value_view texts x ∷ vs) (row_taken texts xs zero count (omega (arith, le)) ∙ sym (row_later texts x xs zero count))
+row_taken texts (x ∷ xs) (suc n) (suc count) le = row_taken texts xs n (suc count) (omega (arith, le)) ∙ sym (row_later texts x xs n (suc count))
+
+map_append : (f : Value → meant.Value) (xs ys : List Value) → map f (xs ++ ys) ≡ map f xs ++ map f ys
+map_append f [] ys = refl
+map_append f (x ∷ xs) ys = ap (λ vs. f x ∷ vs) (map_append f xs ys)
+
+pub held_view : (m : EngineView) (n count : ℕ) (tailed : Bool) → n + count ≤ length m.values → map (value_view m.heap.texts) (held_at m n count tailed) ≡ results_at m n count tailed
+held_view m n count tailed le =
+    map_append (value_view m.heap.texts) (slice_range m.values n (n + count)) (tail_where tailed m.tail)
+    ∙ ap (λ k. map (value_view m.heap.texts) (take k (drop n m.values)) ++ map (value_view m.heap.texts) (tail_where tailed m.tail)) (let e : n + count - n ≡ count = omega arith in e)
+    ∙ ap (λ vs. vs ++ map (value_view m.heap.texts) (tail_where tailed m.tail)) (row_taken m.heap.texts m.values n count le)
+
+rest_is : (m : EngineView) (tailed : Bool) → act.rest (run_of m) (frames_of m) (registers_of m) (state_of [] m) tailed ≡ map (value_view m.heap.texts) (tail_where tailed m.tail)
+rest_is m true = refl
+rest_is m false = refl
+
+-- ---- what a frame gets
+
+receives : (m : EngineView) (w : Wants) (v : Value) (vs : List meant.Value) → WantsOne w → WantsFit m.base (length m.values) w → value_view m.heap.texts v ≡ first vs → received (wants_view w) vs m.base (registers_of m) ≡ registers_of (record m { values = received_values w v m })
+receives m (ToSlot n) v vs one lt e =
+    ap (λ w. with_slots (put (slots_view m.heap.texts m.values) (m.base + n) w)) (sym e)
+    ∙ ap with_slots (slots_set m.heap.texts m.values (m.base + n) v lt)
+  where
+    with_slots : (ℕ → meant.Value) → Registers
+    with_slots s = record { slots = s; cells = (registers_of m).cells; tail = (registers_of m).tail }
+receives m (TruthTo n) v vs one lt e =
+    ap (λ w. with_slots (put (slots_view m.heap.texts m.values) (m.base + n) (flag (is_true w)))) (sym e)
+    ∙ ap with_slots (slots_set m.heap.texts m.values (m.base + n) (Flag (truth m v)) lt)
+  where
+    with_slots : (ℕ → meant.Value) → Registers
+    with_slots s = record { slots = s; cells = (registers_of m).cells; tail = (registers_of m).tail }
+receives m (UntruthTo n) v vs one lt e =
+    ap (λ w. with_slots (put (slots_view m.heap.texts m.values) (m.base + n) (flag (not (is_true w))))) (sym e)
+    ∙ ap with_slots (slots_set m.heap.texts m.values (m.base + n) (Flag (not (truth m v))) lt)
+  where
+    with_slots : (ℕ → meant.Value) → Registers
+    with_slots s = record { slots = s; cells = (registers_of m).cells; tail = (registers_of m).tail }
+receives m ToTail v vs one lt e = absurd one
+receives m Nothing v vs one lt e = refl
+
+-- ---- the step
+
+abbrev leaves : (asks : List Ask) (m : EngineView) → List meant.Value → List Waiting → Step
+leaves asks m vs frames = finish (given vs) frames (registers_of m) (state_of asks m)
+
+-- what a function's end comes to, whatever the asks were
+left : (m : EngineView) (from count : ℕ) (tailed : Bool) (asks : List Ask) → step_of (i.leave from count tailed) asks m ≡ leaves asks m (results_at m (m.base + from) count tailed) (frames_of m)
+left m from count true asks = refl
+left m from count false asks = refl
+
+-- the frame on top goes on with the first result
+pub left_one : (m new : EngineView) (is : IsEngine m) (f : Frame) (from count : ℕ) (tailed : Bool) (v : Value) (went : WentOn f m new) → WantsOne f.wants → WantsFit f.base (length m.values) f.wants → value_view m.heap.texts v ≡ first (results_at m (m.base + from) count tailed) → Did (i.leave from count tailed) m (record new { values = received_values f.wants v new })
+left_one m new is f from count tailed v went one fits e asks =
+    let x : EngineView = resumed m went.frames f in
+    left m from count tailed asks
+    ∙ ap (leaves asks m (results_at m (m.base + from) count tailed)) (resumed_frames m is went.frames f went.were)
+    ∙ ap (λ (r : Registers). on (record { active = (config_of asks x).active; frames = frames_of x; registers = r; state = state_of asks x }))
+    (receives x f.wants v (results_at m (m.base + from) count tailed) one fits e)
+    ∙ ap (λ (y : EngineView). on (config_of asks (record y { values = received_values f.wants v y }))) (sym went.are)
+
+-- the frame on top goes on with all of them
+pub left_all : (m new : EngineView) (is : IsEngine m) (f : Frame) (from count : ℕ) (tailed : Bool) (went : WentOn f m new) → ToTail ≡ f.wants → m.base + from + count ≤ length m.values → Did (i.leave from count tailed) m (record new { tail = held_at new (m.base + from) count tailed })
+left_all m new is f from count tailed went all le asks =
+    let x : EngineView = resumed m went.frames f in
+    let vs : List meant.Value = results_at m (m.base + from) count tailed in
+    left m from count tailed asks
+    ∙ ap (leaves asks m vs) (resumed_frames m is went.frames f went.were)
+    ∙ ap (λ (w : Wants). on (record { active = (config_of asks x).active; frames = frames_of x; registers = received (wants_view w) vs x.base (registers_of x); state = state_of asks x })) (sym all)
+    ∙ ap (λ ws. on (record { active = (config_of asks x).active; frames = frames_of x; registers = record { slots = (registers_of x).slots; cells = (registers_of x).cells; tail = ws }; state = state_of asks x })) (sym (held_view m (m.base + from) count tailed le))
+    ∙ ap (λ (y : EngineView). on (config_of asks (record y { tail = held_at y (m.base + from) count tailed }))) (sym went.are)
+
+-- no frame waits
+pub left_last : (m : EngineView) (from count : ℕ) (tailed : Bool) → m.frames ≡ [] → m.base + from + count ≤ length m.values → LeftOr false (i.leave from count tailed) m (record m { tail = held_at m (m.base + from) count tailed })
+left_last m from count tailed none le asks =
+    left m from count tailed asks
+    ∙ ap (λ (fs : List Frame). leaves asks m (results_at m (m.base + from) count tailed) (frames_of (record m { frames = fs }))) none
+    ∙ ap (λ vs. stop (ended vs (state_of asks m))) (sym (held_view m (m.base + from) count tailed le))
+
+pub one_unless : (w : Wants) → (w ≡ ToTail → ⊥) → WantsOne w
+one_unless ToTail other = other refl
+one_unless w other = tt

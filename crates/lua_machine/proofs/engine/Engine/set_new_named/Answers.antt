@@ -1,0 +1,26 @@
+use Rattle.std.proofs.Common.{◌+◌, sym, ap, ◌∙◌}
+use Rattle.lua_meaning.specs.Value as meant
+use Rattle.lua_heap.specs.Value.{value_view}
+use Rattle.lua_code.specs.declared.instr.Instr.TheVariants.{SetNewNamed}
+use Rattle.lua_code.specs.Act as act
+use Rattle.lua_machine.specs.View.{slots_view, run_of, frames_of, registers_of, state_of}
+use Rattle.lua_machine.specs.Does.{site_at}
+use Rattle.lua_machine.specs.Changes.{new_field_step}
+use Rattle.lua_machine.proofs.Constants.{has_constant, constant_is}
+use Rattle.lua_machine.proofs.Storing.{takes_each}
+use Rattle.lua_machine.proofs.engine.Engine.set_new_named.Goals as goal
+
+pub constant-key-requires : goal.constant-key-requires
+constant-key-requires c = record { constant = has_constant c.args.self.now c.requires.ready.ready c.args.name c.requires.ready.known }
+
+pub returns : goal.returns
+returns c =
+    let m = c.args.self.now in
+    let r = c.requires.ready in
+    let key_is = sym (constant_is m r.ready c.args.name) ∙ ap (value_view m.heap.texts) (sym c.constant-key.ensures.value) in
+    let value_is = ap (value_view m.heap.texts) (sym c.at-value.ensures.value) in
+    takes_each (SetNewNamed c.args.table c.args.name c.args.from) m c.put_field.new.self (new_field_step c.args.table c.constant-key.result c.at-value.result m) ⊥ c.put_field.result c.put_field.ensures r r.leads
+    (λ asks.
+    ap (λ (w : meant.Value). act.sets_new (run_of m) (frames_of m) (registers_of m) (state_of asks m) (site_at m.proto m.pc) (slots_view m.heap.texts m.values (m.base + c.args.table)) w (slots_view m.heap.texts m.values (m.base + c.args.from))) key_is
+    ∙ ap (λ (w : meant.Value). act.sets_new (run_of m) (frames_of m) (registers_of m) (state_of asks m) (site_at m.proto m.pc) (slots_view m.heap.texts m.values (m.base + c.args.table)) (value_view m.heap.texts c.constant-key.result) w) value_is)
+    (λ none. none)

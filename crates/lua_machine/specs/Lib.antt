@@ -1,0 +1,14 @@
+pub mod View
+pub mod Made
+pub mod Constants
+pub mod Results
+pub mod Ready
+pub mod Turns
+pub mod Does
+pub mod Numbers
+pub mod Frames
+pub mod Entering
+pub mod Runs
+pub mod Starting
+pub mod Errors
+pub mod Changes

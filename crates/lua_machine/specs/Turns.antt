@@ -1,0 +1,40 @@
+-- Turns of a numeric loop.
+use Rattle.std.specs.Prelude.{◌≡◌, ℕ, ◌+◌, ℤ, Bool, true, false, List, length, Option, Some, None, ◌⊎◌}
+use Rattle.lua_meaning.specs.Message.{Ask}
+use Rattle.lua_heap.specs.declared.value.Value.{Value}
+use Rattle.lua_heap.specs.declared.value.Value.TheVariants.{Num}
+use Rattle.lua_code.specs.State.{Step, on, stop, no_ticks}
+use Rattle.lua_code.specs.Act.{turns}
+use Rattle.lua_machine.specs.View.{EngineView, value_at, run_of, frames_of, registers_of, state_of, config_of}
+
+-- three numbers
+abbrev pub three_numbers : Value → Value → Value → Option (ℤ × ℤ × ℤ)
+three_numbers (Num n) (Num m) (Num k) = Some (n, m, k)
+three_numbers a b c = None
+
+-- those that stand in the first three slots of a loop
+abbrev pub numbers_at : EngineView → ℕ → Option (ℤ × ℤ × ℤ)
+numbers_at m at =
+    three_numbers (value_at m.values (m.base + at)) (value_at m.values (m.base + at + 1))
+    (value_at m.values (m.base + at + 2))
+
+-- what a turn does
+abbrev pub turn_of : (at body exit : ℕ) → (n m k : ℤ) → List Ask → EngineView → Step
+turn_of at body exit n m k asks x =
+    turns (run_of x) (frames_of x) (registers_of x) (state_of asks x) at body exit n m k
+
+-- it began or there was none; or it wants a tick and none is left
+abbrev pub TurnedOr : Bool → (at body exit : ℕ) → (n m k : ℤ) → EngineView → EngineView → Type 0
+TurnedOr true at body exit n m k old new =
+    (asks : List Ask) → turn_of at body exit n m k asks old ≡ on (config_of asks new)
+TurnedOr false at body exit n m k old new =
+    (asks : List Ask) → turn_of at body exit n m k asks new ≡ stop (no_ticks (state_of asks new))
+
+-- it began or there was none: the engine is at one of two places, and slots and ticks changed alone
+pub record HasTurned (body exit : ℕ) (old new : EngineView) : Type 0 where
+  pub values : List Value
+  pub pc : ℕ
+  pub ticks : ℕ
+  pub is : new ≡ record old { values = values; pc = pc; ticks = ticks }
+  pub long : length values ≡ length old.values
+  pub place : (pc ≡ body) ⊎ (pc ≡ exit)

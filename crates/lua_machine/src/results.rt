@@ -1,0 +1,103 @@
+//! Results, and the end of a function.
+
+ghost use Rattle.std.specs.Prelude.{◌≡◌, ◌+◌, ◌<◌, ◌≤◌, ◌^◌, length, OnOk, IfOk};
+ghost use Rattle.lua_meaning.specs.Value.{first as first_of};
+ghost use Rattle.lua_heap.specs.Heap.{IsMade};
+ghost use Rattle.lua_heap.specs.Value.{value_view};
+ghost use Rattle.lua_code.specs.declared.instr.Instr.TheVariants.{Leave};
+ghost use Rattle.lua_machine.specs.Results.{held_at, results_at, received_values, truth, WantsOne};
+ghost use Rattle.lua_machine.specs.Ready.{WantsFit, IsReadyFor};
+ghost use Rattle.lua_machine.specs.Does.{Takes};
+
+use crate::engine::Engine;
+use crate::frame::Wants;
+use crate::status::Status;
+use love_base::Memory;
+use lua_heap::Value;
+use lua_operators::is_true;
+
+impl<'a> Engine<'a> {
+    // The first of the values from a slot of the list on, and of the tail where it is wanted.
+    #[inline]
+    fn first_of(&self, first: usize, count: u32, tailed: bool) -> Value
+        requires slots { first + count ≤ length self.now.values }
+        ensures value { value_view self.now.heap.texts result
+            ≡ first_of (results_at self.now first count tailed) }
+        ensures made { IsMade self.now.heap result }
+    {
+        if count > 0 {
+            return self.values[first];
+        }
+        if tailed && !self.tail.is_empty() {
+            return self.tail[0];
+        }
+        Value::Nil
+    }
+
+    // The tail gets these values.
+    fn gather(&mut self, first: usize, count: u32, tailed: bool) -> Result<(), Memory>
+        requires slots { first + count ≤ length self.old.values }
+        ensures { OnOk result (self.new
+            ≡ record self.old { tail = held_at self.old first count tailed }) }
+    {
+        let _values = &self.values;
+        let end = first + count as usize;
+        if tailed {
+            let mut all = Vec::from_slice(self.alloc, &self.values[first..end])?;
+            all.extend_from_slice(self.tail.as_slice())?;
+            self.tail = all;
+        } else {
+            self.tail.clear();
+            self.tail.extend_from_slice(&self.values[first..end])?;
+        }
+        Ok(())
+    }
+
+    // A function that went on gets the first result.
+    #[inline]
+    fn receive(&mut self, wants: Wants, value: Value)
+        requires one { WantsOne wants }
+        requires fits { WantsFit self.old.base (length self.old.values) wants }
+        requires made { IsMade self.old.heap value }
+        ensures { self.new ≡ record self.old { values = received_values wants value self.old } }
+    {
+        match wants {
+            Wants::ToSlot(n) => {
+                let at = self.base + n as usize;
+                self.values[at] = value;
+            }
+            Wants::TruthTo(n) => {
+                let at = self.base + n as usize;
+                self.values[at] = Value::Bool(is_true(&value));
+            }
+            Wants::UntruthTo(n) => {
+                let at = self.base + n as usize;
+                self.values[at] = Value::Bool(!is_true(&value));
+            }
+            Wants::Nothing | Wants::ToTail => {}
+        }
+    }
+
+    // The running function ends.
+    pub(crate) fn leave(&mut self, from: u32, count: u32, tailed: bool) -> Result<Status, Memory>
+        requires ready { IsReadyFor (Leave from count tailed) self.old }
+        ensures { IfOk result (λ status. Takes (Leave from count tailed) status self.old self.new) }
+    {
+        let first = self.base + from as usize;
+        match self.pop() {
+            None => {
+                self.gather(first, count, tailed)?;
+                Ok(Status::Ends)
+            }
+            Some(frame) => {
+                if let Wants::ToTail = frame.wants {
+                    self.gather(first, count, tailed)?;
+                    return Ok(Status::Goes);
+                }
+                let value = self.first_of(first, count, tailed);
+                self.receive(frame.wants, value);
+                Ok(Status::Goes)
+            }
+        }
+    }
+}

@@ -1,0 +1,31 @@
+//! What an instruction comes to.
+
+use lua_heap::Value;
+
+// What an instruction came to.
+#[derive(Debug, Drop)]
+pub(crate) enum Status {
+    // The next instruction comes.
+    Goes,
+    // It takes a tick, and none is left.
+    NoTick,
+    // An error, which goes to the frames that wait.
+    Raises(Value),
+    // The last function ended. Its results are in the tail.
+    Ends,
+    // It can't be done yet, and the engine is as it was.
+    NotYet,
+}
+
+// Where a run stands still.
+#[derive(Debug, Drop)]
+pub(crate) enum Pause {
+    // The main function ended. Its results are in the tail.
+    Ended,
+    // An error ended the run.
+    Failed(Value),
+    // There was no tick left.
+    NoTick,
+    // The next instruction can't be done yet.
+    NotYet,
+}

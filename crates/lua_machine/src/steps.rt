@@ -1,0 +1,147 @@
+//! Steps: one instruction after the other.
+
+ghost use Rattle.std.specs.Prelude.{◌≡◌, IfOk};
+ghost use Rattle.lua_machine.specs.Ready.{IsReady, IsReadyFor};
+ghost use Rattle.lua_machine.specs.Does.{Takes};
+ghost use Rattle.lua_machine.specs.Runs.{Steps, Runs};
+
+use crate::engine::Engine;
+use crate::status::{Pause, Status};
+use love_base::Memory;
+use lua_code::Instr;
+
+impl<'a> Engine<'a> {
+    // The next instruction.
+    #[inline]
+    fn fetch(&self) -> Instr
+        requires ready { IsReady self.now }
+        ensures { IsReadyFor result self.now }
+    {
+        self.proto.instrs()[self.pc]
+    }
+
+    // Does an instruction.
+    #[inline]
+    fn act(&mut self, instr: Instr) -> Result<Status, Memory>
+        requires ready { IsReadyFor instr self.old }
+        ensures { IfOk result (λ status. Takes instr status self.old self.new) }
+    {
+        match instr {
+            Instr::Move { to, from } => {
+                self.shift(to, from);
+                Ok(Status::Goes)
+            }
+            Instr::Const { to, constant } => {
+                self.load_constant(to, constant);
+                Ok(Status::Goes)
+            }
+            Instr::GetCell { to, cell } => {
+                self.get_cell(to, cell);
+                Ok(Status::Goes)
+            }
+            Instr::SetCell { cell, from } => {
+                self.set_cell(cell, from);
+                Ok(Status::Goes)
+            }
+            Instr::SetCellConst { cell, constant } => {
+                self.set_cell_const(cell, constant);
+                Ok(Status::Goes)
+            }
+            Instr::NewCell { cell, from } => self.new_cell(cell, from),
+            Instr::Close { to, proto } => self.close(to, proto),
+            Instr::FirstExtra { to } => {
+                self.first_extra(to);
+                Ok(Status::Goes)
+            }
+            Instr::AllExtra => self.all_extra(),
+            Instr::Skip { count } => {
+                self.skip(count);
+                Ok(Status::Goes)
+            }
+            Instr::SkipIf { from, count } => {
+                self.skip_if(from, count);
+                Ok(Status::Goes)
+            }
+            Instr::SkipUnless { from, count } => {
+                self.skip_unless(from, count);
+                Ok(Status::Goes)
+            }
+            Instr::Tick => Ok(self.tick()),
+            Instr::BackIf { from, count } => Ok(self.back_if(from, count)),
+            Instr::BackUnless { from, count } => Ok(self.back_unless(from, count)),
+            Instr::ForBegin { at, count } => Ok(self.for_begin(at, count)),
+            Instr::ForNext { at, count } => Ok(self.for_next(at, count)),
+            Instr::NewTable { to } => self.new_table(to),
+            Instr::SetItem {
+                table,
+                number,
+                from,
+            } => self.set_item(table, number, from),
+            Instr::SetItemConst {
+                table,
+                number,
+                constant,
+            } => self.set_item_const(table, number, constant),
+            Instr::SetRest { table, number } => self.set_rest(table, number),
+            Instr::SetNew { table, key, from } => self.set_new(table, key, from),
+            Instr::SetNewConst {
+                table,
+                key,
+                constant,
+            } => self.set_new_const(table, key, constant),
+            Instr::SetNewNamed { table, name, from } => self.set_new_named(table, name, from),
+            Instr::SetNewNamedConst {
+                table,
+                name,
+                constant,
+            } => self.set_new_named_const(table, name, constant),
+            Instr::Leave {
+                from,
+                count,
+                tailed,
+            } => self.leave(from, count, tailed),
+            Instr::Unary { .. }
+            | Instr::Binary { .. }
+            | Instr::BinaryConst { .. }
+            | Instr::GetField { .. }
+            | Instr::GetNamed { .. }
+            | Instr::GetGlobal { .. }
+            | Instr::SetField { .. }
+            | Instr::SetFieldConst { .. }
+            | Instr::SetNamed { .. }
+            | Instr::SetNamedConst { .. }
+            | Instr::SetGlobal { .. }
+            | Instr::SetGlobalConst { .. }
+            | Instr::Invoke { .. }
+            | Instr::InvokeAll { .. }
+            | Instr::Spread { .. }
+            | Instr::EachNext { .. } => Ok(Status::NotYet),
+        }
+    }
+
+    // One step.
+    #[inline]
+    fn step(&mut self) -> Result<Status, Memory>
+        requires ready { IsReady self.old }
+        ensures { IfOk result (λ status. Steps status self.old self.new) }
+    {
+        let instr = self.fetch();
+        self.act(instr)
+    }
+
+    // Goes on to where the machine of the definitions pauses.
+    pub(crate) fn run(&mut self) -> Result<Pause, Memory>
+        requires ready { IsReady self.old }
+        ensures { IfOk result (λ pause. Runs pause self.old self.new) }
+    {
+        loop {
+            match self.step()? {
+                Status::Goes => {}
+                Status::NoTick => return Ok(Pause::NoTick),
+                Status::Raises(value) => return Ok(Pause::Failed(value)),
+                Status::Ends => return Ok(Pause::Ended),
+                Status::NotYet => return Ok(Pause::NotYet),
+            }
+        }
+    }
+}
