@@ -8,14 +8,14 @@ ghost use Rattle.lua_code.specs.View.{site_view};
 ghost use Rattle.lua_code.specs.Code.{stat_code, target_code, targets_code, fitted, site, store, store_name, stores, own_slot, width, widths};
 ghost use Rattle.lua_assembler.specs.Writing.{Adds};
 
-use lua_assembler::{Scope, Seat, Writer};
+use crate::expressions::{expr_code, exprs_code};
+use love_base::{Memory, Text};
 use lua_assembler::control::spread;
 use lua_assembler::fields::{set_field, set_global};
 use lua_assembler::lists::{count_of, is_tailed, slot_at, slots_of, sum};
 use lua_assembler::moves::{load_slot, set_cell};
 use lua_assembler::operands::{is_ready_slot, left_slot, next, site_of};
-use crate::expressions::{expr_code, exprs_code};
-use love_base::{Memory, Text};
+use lua_assembler::{Scope, Seat, Writer};
 use lua_code::Site;
 use lua_tree::{Expr, ExprKind};
 

@@ -5,15 +5,15 @@ ghost use Rattle.lua_code.specs.Code.{block_code};
 ghost use Rattle.lua_assembler.specs.Writing.{Adds};
 ghost use Rattle.lua_compile.specs.Locals.{TakesBlock};
 
-use lua_assembler::{Scope, Writer};
-use lua_assembler::control::tick;
-use lua_assembler::lists::sum;
-use lua_assembler::operands::site_of;
-use lua_upvalues::Names;
 use crate::locals::enter_block;
 use crate::statements::stat_code;
 use love_base::{Memory, Text};
+use lua_assembler::control::tick;
+use lua_assembler::lists::sum;
+use lua_assembler::operands::site_of;
+use lua_assembler::{Scope, Writer};
 use lua_tree::Block;
+use lua_upvalues::Names;
 
 // The code of a block with a scope of its own. `exit` is how many instructions stand behind it up
 // to the end of the loop around it.

@@ -6,14 +6,14 @@ ghost use Rattle.lua_compile.specs.Arms.{AddsArm};
 ghost use Rattle.lua_upvalues.specs.Parts.{block_option};
 ghost use Rattle.lua_assembler.specs.Writing.{Adds};
 
-use lua_assembler::{Scope, Writer};
+use crate::blocks::block_code;
+use crate::expressions::left_code;
+use love_base::{Memory, Text};
 use lua_assembler::control::skip_unless;
 use lua_assembler::jumps::put_skip_over;
 use lua_assembler::lists::sum;
 use lua_assembler::operands::{left_slot, site_of};
-use crate::blocks::block_code;
-use crate::expressions::left_code;
-use love_base::{Memory, Text};
+use lua_assembler::{Scope, Writer};
 use lua_tree::{Arm, Block};
 
 // `if a then elseif b then else end`

@@ -4,9 +4,9 @@ ghost use Rattle.lua_meaning.specs.Names.{is_captured};
 ghost use Rattle.lua_code.specs.Scope.{declared, kind_of, cell_names, cell_places, around, named};
 ghost use Rattle.lua_assembler.specs.Seats.{entry_view};
 
+use love_base::{Memory, Text};
 use lua_assembler::{Entry, Scope, Seat};
 use lua_upvalues::{Names, is_among};
-use love_base::{Memory, Text};
 use std::alloc::Global;
 
 // New locals in scope, of which `captured` has the names that functions in their scope use.

@@ -7,15 +7,15 @@ ghost use Rattle.lua_code.specs.Trees.{chunk_of};
 ghost use Rattle.lua_upvalues.specs.Upvalues.{block_fault};
 ghost use Rattle.lua_compile.specs.Fault.{IsCause};
 
-use lua_assembler::{Scope, Writer};
-use lua_assembler::control::leave;
-use lua_assembler::operands::site_of;
-use lua_upvalues::check_upvalues;
 use crate::blocks::block_code;
 use crate::fault::CompileFault;
 use love_base::{Memory, Text};
+use lua_assembler::control::leave;
+use lua_assembler::operands::site_of;
+use lua_assembler::{Scope, Writer};
 use lua_code::{Code, Proto};
 use lua_tree::Chunk;
+use lua_upvalues::check_upvalues;
 use std::alloc::Global;
 
 /// The code of a chunk whose source has a name: what the definitions of `lua_code` give its tree.

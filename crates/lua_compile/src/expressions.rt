@@ -5,15 +5,19 @@ ghost use Rattle.lua_code.specs.Code.{expr_code, tail_code, exprs_code, ready, r
 ghost use Rattle.lua_assembler.specs.Writing.{Adds};
 ghost use Rattle.lua_compile.specs.Lists.{one_or_all};
 
-use lua_assembler::{Scope, Writer};
-use lua_assembler::calls::{put_call, put_method, put_method_call, put_method_tail_call, put_tail_call};
-use lua_assembler::lists::slot_at;
-use lua_assembler::operands::{is_many, is_ready, is_ready_slot, next};
-use lua_assembler::operators::{put_binary, put_index, put_name, put_settle, put_skip_if, put_skip_unless, put_unary};
-use lua_assembler::values::{put_all_dots, put_constant, put_dots, put_table, put_text};
 use crate::functions::function_code;
 use crate::tables::fields_code;
 use love_base::{Memory, Text};
+use lua_assembler::calls::{
+    put_call, put_method, put_method_call, put_method_tail_call, put_tail_call,
+};
+use lua_assembler::lists::slot_at;
+use lua_assembler::operands::{is_many, is_ready, is_ready_slot, next};
+use lua_assembler::operators::{
+    put_binary, put_index, put_name, put_settle, put_skip_if, put_skip_unless, put_unary,
+};
+use lua_assembler::values::{put_all_dots, put_constant, put_dots, put_table, put_text};
+use lua_assembler::{Scope, Writer};
 use lua_code::Constant;
 use lua_tree::{BinOp, Expr, ExprKind};
 

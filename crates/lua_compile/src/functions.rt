@@ -8,17 +8,17 @@ ghost use Rattle.lua_code.specs.Scope.{cell_names, cell_places};
 ghost use Rattle.lua_assembler.specs.Writing.{Adds};
 ghost use Rattle.lua_compile.specs.Functions.{IsMade, func_body, func_inner};
 
-use lua_assembler::{Scope, Writer};
-use lua_assembler::control::leave;
-use lua_assembler::lists::slot_at;
-use lua_assembler::moves::close;
-use lua_assembler::operands::site_of;
-use lua_upvalues::{Names, block_names, func_names};
 use crate::blocks::block_code;
 use crate::captures::{declare, places, scope_inside};
 use crate::locals::put_cells;
 use love_base::{List, Memory, Text};
+use lua_assembler::control::leave;
+use lua_assembler::lists::slot_at;
+use lua_assembler::moves::close;
+use lua_assembler::operands::site_of;
+use lua_assembler::{Scope, Writer};
 use lua_tree::Func;
+use lua_upvalues::{Names, block_names, func_names};
 use std::alloc::Global;
 
 // A slot gets a new function.

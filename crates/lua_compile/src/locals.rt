@@ -7,13 +7,13 @@ ghost use Rattle.lua_code.specs.Code.{scope_at_end, scope_behind, numbers_in};
 ghost use Rattle.lua_assembler.specs.Seats.{entry_view};
 ghost use Rattle.lua_compile.specs.Locals.{Precedes, TakesLocals, TakesEntry};
 
-use lua_assembler::{Entry, Scope, Writer};
-use lua_assembler::moves::new_cell;
-use lua_assembler::operands::site_of;
-use lua_upvalues::{Names, block_names, expr_names, func_names, stat_names};
 use crate::captures::{declare, local};
 use love_base::{Memory, Text};
+use lua_assembler::moves::new_cell;
+use lua_assembler::operands::site_of;
+use lua_assembler::{Entry, Scope, Writer};
 use lua_tree::{Block, Expr, Stat, StatKind};
+use lua_upvalues::{Names, block_names, expr_names, func_names, stat_names};
 use std::alloc::Global;
 use std::slice;
 

@@ -7,11 +7,6 @@ ghost use Rattle.lua_code.specs.Scope.{seat_of};
 ghost use Rattle.lua_assembler.specs.Writing.{Adds};
 ghost use Rattle.lua_compile.specs.Locals.{TakesStat};
 
-use lua_assembler::{Scope, Seat, Writer};
-use lua_assembler::control::{leave, skip};
-use lua_assembler::lists::{count_of, is_tailed, slots_of};
-use lua_assembler::moves::{load_constant, set_cell};
-use lua_assembler::operands::{next, site_of};
 use crate::assignments::{assign_code, put_fitted, put_store, target_code, target_slot};
 use crate::blocks::block_code;
 use crate::branches::if_code;
@@ -20,6 +15,11 @@ use crate::functions::function_code;
 use crate::locals::put_cells;
 use crate::loops::{generic_code, numeric_code, repeat_code, while_code};
 use love_base::{Memory, Text};
+use lua_assembler::control::{leave, skip};
+use lua_assembler::lists::{count_of, is_tailed, slots_of};
+use lua_assembler::moves::{load_constant, set_cell};
+use lua_assembler::operands::{next, site_of};
+use lua_assembler::{Scope, Seat, Writer};
 use lua_code::Constant;
 use lua_tree::{Expr, Func, Stat, StatKind};
 

@@ -6,12 +6,12 @@ ghost use Rattle.lua_code.specs.Code.{fields_code};
 ghost use Rattle.lua_assembler.specs.Writing.{Adds};
 ghost use Rattle.lua_compile.specs.Fields.{items, one_more, item_code, pair_code, AddsField, Counts};
 
-use lua_assembler::{Scope, Writer};
+use crate::expressions::{right_code, tail_code};
+use love_base::{Memory, Text};
 use lua_assembler::items::{put_item, put_pair, put_rest};
 use lua_assembler::lists::slot_at;
 use lua_assembler::operands::{is_many, next, second_next};
-use crate::expressions::{right_code, tail_code};
-use love_base::{Memory, Text};
+use lua_assembler::{Scope, Writer};
 use lua_tree::{Expr, Field};
 
 // Whether a field is a value alone.

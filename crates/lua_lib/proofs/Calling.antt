@@ -41,6 +41,10 @@ module _ {R : Type 0} (items : R → List Value) (before after : HeapView) (part
   called-elsewhere true called is = cc
   called-elsewhere false called is = called.0
 
+  pub called-untouched : (here : Bool) → CalledIf here items before after part result → IsFalse here → after ≡ before
+  called-untouched true called is = cc
+  called-untouched false called is = called.1
+
   pub called-made : (here : Bool) → CalledIf here items before after part result → IfOk result (λ (given : R). AreMade after (items given))
   called-made true called = called.made
   called-made false called = let P : Result R LibFault → Type 0 = λ r. IfOk r (λ (given : R). AreMade after (items given)) in subst P (sym called.0) tt

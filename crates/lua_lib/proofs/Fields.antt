@@ -1,12 +1,10 @@
 -- Fields of tables and pairs, as the definitions read and set them.
-use Rattle.std.proofs.Common.{◌≡◌, ◌≢◌, ℕ, suc, ◌≤◌, ℤ, pos, List, [], ◌∷◌, Option, None, Some, Result, Ok, Err, ap, refl, sym, ◌∙◌}
+use Rattle.std.proofs.Common.{◌≡◌, ◌≢◌, ℕ, List, [], Option, None, Some, Ok, ap, refl}
 use Rattle.std.specs.Option.{option_map}
-use Rattle.lua_table.specs.declared.table.NoSuchKey.{NoSuchKey}
 use Rattle.lua_tree.specs.Tree.{Bytes}
 use Rattle.lua_meaning.specs.Value as meant
 use Rattle.lua_meaning.specs.Store.{Store, raw_set}
-use Rattle.lua_meaning.specs.Fault.{improper}
-use Rattle.lua_meaning.specs.Arguments.{Answer, answers, faults}
+use Rattle.lua_meaning.specs.Arguments.{answers}
 use Rattle.lua_meaning.specs.Basic as meaning
 use Rattle.lua_heap.specs.declared.value.Value.{Value}
 use Rattle.lua_heap.specs.declared.value.Value.TheVariants.{Nil, Bool as Flag, Num, Str, Table as TableValue, Func, Native, Channel, Thread, Data}

@@ -14,3 +14,14 @@ pub mod Fields
 pub mod Calling
 pub mod Reading
 pub mod Outstanding
+pub mod Tuples
+pub mod Bases
+pub mod ByteValues
+pub mod Pieces
+pub mod Numbered
+pub mod Metatables
+pub mod Written
+pub mod Moved
+pub mod Joined
+pub mod Parts
+pub mod Texts

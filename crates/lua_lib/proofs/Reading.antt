@@ -63,6 +63,22 @@ number_or-value n vs default s some = by (meaning.argument n vs) some
     by (meant.thread t) some = refl
     by (meant.datum d) some = refl
 
+pub text_or-value : (n : ℕ) (vs : List meant.Value) (default : Bytes) (s : Store) → meaning.argument n vs ≢ meant.nil
+    → meaning.text_or n vs default s ≡ meaning.text_argument n vs s
+text_or-value n vs default s some = by (meaning.argument n vs) some
+  where
+    by : (v : meant.Value) → v ≢ meant.nil → meaning.text_of n v default s ≡ meaning.wanted n (codes "string") v (as_text v) s
+    by meant.nil some = absurd (some refl)
+    by (meant.flag b) some = refl
+    by (meant.num z) some = refl
+    by (meant.str b) some = refl
+    by (meant.table t) some = refl
+    by (meant.func f) some = refl
+    by (meant.native f) some = refl
+    by (meant.channel c) some = refl
+    by (meant.thread t) some = refl
+    by (meant.datum d) some = refl
+
 -- a value but nil isn't nil to the definitions
 pub view-some : (texts : List Bytes) (v : Value) → v ≢ Nil → value_view texts v ≢ meant.nil
 view-some texts Nil some = λ e. some refl

@@ -1,11 +1,10 @@
 -- Parts of a function one after the other, at a heap.
-use Rattle.std.proofs.Common.{◌≡◌, List, Option, None, Some, Result, Ok, Err, ap, refl, subst, ◌∙◌}
+use Rattle.std.proofs.Common.{◌≡◌, Option, None, Some, Result, Ok, Err, ap, refl, subst, ◌∙◌}
 use Rattle.lua_meaning.specs.Store.{Store}
 use Rattle.lua_meaning.specs.Fault.{Fault as Error}
-use Rattle.lua_meaning.specs.Arguments.{Lib, Answer, answers, faults, ◌>>=◌, ◌>>>◌}
+use Rattle.lua_meaning.specs.Arguments.{Lib, Answer, answers, ◌>>=◌, ◌>>>◌}
 use Rattle.lua_heap.specs.Heap.{HeapView, store_of}
 use Rattle.lua_lib.specs.declared.call.cause.Cause.{Cause}
-use Rattle.lua_lib.specs.Outcome.{Gives}
 use Rattle.lua_lib.specs.Faults.{RaisesBy}
 use Rattle.lua_lib.specs.Causes.{Comes, error_of}
 use Rattle.lua_lib.specs.Runs.{Runs, Refuses}
@@ -46,3 +45,19 @@ module _ {A B : Type 0} (part : Lib A) (next : A → Lib B) where
   pub refuses-first : (before after : HeapView) (e : Option Error) → Refuses before after part e → Refuses before after (part >>= next) e
   refuses-first before after None h = tt
   refuses-first before after (Some e) h = (ap (λ (x : Answer A). x >>> next) h.0, h.1)
+
+  -- both come to something
+  pub runs-then : {R : Type 0} (meant : R → B) (before after : HeapView) (a : A) (r : Result R Cause) → part (store_of before) ≡ answers a (store_of before)
+      → Runs meant before after (next a) r → Runs meant before after (part >>= next) r
+  runs-then meant before after a (Ok given) p runs = ap (λ (x : Answer A). x >>> next) p ∙ runs
+  runs-then meant before after a (Err cause) p runs = refuses-then before after a (error_of after.texts cause) p runs
+
+-- a part that is another one there comes to what that does
+pub runs-same : {R A : Type 0} (meant : R → A) (before after : HeapView) (part other : Lib A) (r : Result R Cause) → part (store_of before) ≡ other (store_of before)
+    → Runs meant before after other r → Runs meant before after part r
+runs-same meant before after part other (Ok a) same runs = same ∙ runs
+runs-same meant before after part other (Err cause) same runs = by (error_of after.texts cause) runs
+  where
+    by : (e : Option Error) → Refuses before after other e → Refuses before after part e
+    by None refused = tt
+    by (Some e) refused = (same ∙ refused.0, refused.1)

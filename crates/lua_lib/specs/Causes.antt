@@ -3,13 +3,14 @@ use Rattle.std.specs.Prelude.{◌≡◌, ℕ, ℤ, pos, List, [], ◌∷◌, map
 use Rattle.std.specs.List.{AllByRecursion}
 use Rattle.lua_tree.specs.Tree.{Bytes}
 use Rattle.lua_meaning.specs.Value as meant
-use Rattle.lua_meaning.specs.Fault.{Fault as Error, wants}
+use Rattle.lua_meaning.specs.Fault.{Fault as Error, wants, says, raises}
 use Rattle.lua_meaning.specs.Arguments.{Lib}
+use Rattle.lua_meaning.specs.Tables.{no_text}
 use Rattle.lua_heap.specs.declared.value.Value.{Value}
 use Rattle.lua_heap.specs.Value.{value_view}
 use Rattle.lua_heap.specs.Heap.{HeapView, IsMade}
 use Rattle.lua_lib.specs.declared.call.cause.Cause.{Cause}
-use Rattle.lua_lib.specs.declared.call.cause.Cause.TheVariants.{Wants, By}
+use Rattle.lua_lib.specs.declared.call.cause.Cause.TheVariants.{Wants, By, NoText, Raises}
 use Rattle.lua_lib.specs.declared.call.cause.Expected.{Expected}
 use Rattle.lua_lib.specs.declared.call.cause.Expected.TheVariants.{Number, Text, Table, Data, FileData, Object}
 use Rattle.lua_lib.specs.Outcome.{Gives}
@@ -38,6 +39,8 @@ abbrev pub error_of : List Bytes → Cause → Option Error
 error_of texts (Wants argument expected got) =
     Some (wants argument (expected_text expected) (value_view texts got))
 error_of texts (By fault) = fault_error fault
+error_of texts (NoText number value) = Some (says (no_text (value_view texts value) number))
+error_of texts (Raises value) = Some (raises (value_view texts value))
 
 -- ---- answers
 
@@ -52,3 +55,8 @@ one_number n = meant.num n ∷ []
 
 abbrev pub one_text : Bytes → List meant.Value
 one_text text = meant.str text ∷ []
+
+-- the places of a first and a last byte, or nil
+abbrev pub places_or_nil : Option (ℤ × ℤ) → List meant.Value
+places_or_nil None = meant.nil ∷ []
+places_or_nil (Some places) = meant.num places.0 ∷ meant.num places.1 ∷ []

@@ -1,9 +1,10 @@
 -- Which error each fault is, by the definitions of the library.
 use Rattle.std.specs.Prelude.{Option, None, Some, codes, ⊤}
-use Rattle.lua_meaning.specs.Fault.{Fault as Error, improper, says}
+use Rattle.lua_meaning.specs.Value.{str}
+use Rattle.lua_meaning.specs.Fault.{Fault as Error, improper, says, raises}
 use Rattle.lua_meaning.specs.Arguments.{Lib}
 use Rattle.lua_lib.specs.declared.fault.Fault.{Fault}
-use Rattle.lua_lib.specs.declared.fault.Fault.TheVariants.{IndexOutOfRange, BaseOutOfRange, NoByte, Negative, NotWhole, OutOfRange, StringTooLong, TooManyValues, PatternsNotAvailable, InvalidFormat, NoSuchKey, KeyIsNil, Memory}
+use Rattle.lua_lib.specs.declared.fault.Fault.TheVariants.{IndexOutOfRange, BaseOutOfRange, NoByte, Negative, NotWhole, OutOfRange, StringTooLong, TooManyValues, PatternsNotAvailable, InvalidFormat, NoSuchKey, KeyIsNil, AssertionFailed, NoMetatable, Protected, PositionOutOfBounds, OutOfBounds, Memory}
 use Rattle.lua_lib.specs.Outcome.{Raises}
 
 -- the error of a fault; want of memory is none that the definitions have
@@ -20,6 +21,11 @@ fault_error PatternsNotAvailable = Some (says (codes "patterns are not available
 fault_error InvalidFormat = Some (says (codes "invalid format"))
 fault_error NoSuchKey = Some (improper 1 (codes "no such key"))
 fault_error KeyIsNil = Some (says (codes "table index is nil"))
+fault_error AssertionFailed = Some (raises (str (codes "assertion failed!")))
+fault_error NoMetatable = Some (improper 1 (codes "nil or table expected"))
+fault_error Protected = Some (says (codes "cannot change a protected metatable"))
+fault_error PositionOutOfBounds = Some (improper 1 (codes "position out of bounds"))
+fault_error (OutOfBounds argument) = Some (improper argument (codes "out of bounds"))
 fault_error Memory = None
 
 -- a function raises an error, where there is one

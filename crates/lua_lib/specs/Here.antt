@@ -37,6 +37,22 @@ is_here Native.data_get_size = true
 is_here Native.data_get_string = true
 is_here Native.object_type = true
 is_here Native.object_type_of = true
+is_here Native.assert = true
+is_here Native.getmetatable = true
+is_here Native.select = true
+is_here Native.setmetatable = true
+is_here Native.tonumber = true
+is_here Native.unpack = true
+is_here Native.string_byte = true
+is_here Native.string_char = true
+is_here Native.string_find = true
+is_here Native.string_format = true
+is_here Native.table_concat = true
+is_here Native.table_insert = true
+is_here Native.table_remove = true
+is_here Native.love_data_new_byte_data = true
+is_here Native.love_data_new_data_view = true
+is_here Native.data_get_filename = true
 is_here f = false
 
 -- a function that is here is called; any other one is refused, and the heap stays as it is

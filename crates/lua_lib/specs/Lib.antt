@@ -7,3 +7,8 @@ pub mod Items
 pub mod Causes
 pub mod Runs
 pub mod Here
+pub mod Selected
+pub mod Pieces
+pub mod Joined
+pub mod Texts
+pub mod Parts

@@ -34,6 +34,11 @@ abbrev pub pair_or_none : List Bytes → Option (Value × Value) → List meant.
 pair_or_none texts None = []
 pair_or_none texts (Some pair) = value_view texts pair.0 ∷ value_view texts pair.1 ∷ []
 
+-- a value, or nothing
+abbrev pub value_or_none : List Bytes → Option Value → List meant.Value
+value_or_none texts None = []
+value_or_none texts (Some v) = value_view texts v ∷ []
+
 -- a call gives a function's values, and the store is then that of the heap; or it fails with the function's error
 abbrev pub Calls : {R : Type 0} → (R → List Value) → (before after : HeapView) → Lib (List meant.Value) → Result R LibFault → Type 0
 Calls items before after part (Ok given) =

@@ -1,6 +1,6 @@
 //! Basic functions (Lua 5.1 manual §5.1).
 
-ghost use Rattle.std.specs.Prelude.{◌≡◌, ◌≤◌, [], ◌∷◌, map, IfOk, IfErr};
+ghost use Rattle.std.specs.Prelude.{◌≡◌, ℕ, ◌≤◌, drop, ◌+ℤ◌, ◌≤ℤ◌, pos, [], ◌∷◌, map, IfOk, IfErr};
 ghost use Rattle.std.specs.Option.{option_and_then};
 ghost use Rattle.lua_meaning.specs.Value.{Value, num, str};
 ghost use Rattle.lua_meaning.specs.Basic as meaning;
@@ -23,6 +23,7 @@ use lua_value::Num;
 pub fn select<T>(n: Num, arguments: &[T]) -> Result<&[T], Fault>
     ensures ok { IfOk result (λ selected. (value : T → Value) →
         Gives (meaning.selected n (map value arguments.now)) (map value selected.now)) }
+    ensures last { IfOk result (λ selected. (count : ℕ) × (selected.now ≡ drop count arguments.now)) }
     ensures fault { IfErr result (λ fault. (value : T → Value) →
         FailsBy (meaning.selected n (map value arguments.now)) fault) }
 {
@@ -101,6 +102,17 @@ fn digits_number(base: u32, digits: &[u8]) -> Option<Num>
     natural(number)
 }
 
+/// How many whole numbers there are from `i` to `j`.
+pub fn count_from(i: Num, j: Num) -> usize
+    ensures count { result ≡ count_from i j }
+    ensures within { (i +ℤ pos result) ≤ℤ pos 100000000000000 }
+{
+    if j.get() < i.get() {
+        return 0;
+    }
+    (j.get() - i.get()) as usize + 1
+}
+
 /// How many values `unpack` gives of a table's values at `i` to `j`.
 ///
 /// # Errors
@@ -109,12 +121,10 @@ fn digits_number(base: u32, digits: &[u8]) -> Option<Num>
 pub fn unpacked(i: Num, j: Num) -> Result<usize, Fault>
     ensures ok { IfOk result (λ count. (count ≡ count_from i j)
         × Gives (meaning.at_most_a_million (count_from i j)) tt) }
+    ensures within { IfOk result (λ count. (i +ℤ pos count) ≤ℤ pos 100000000000000) }
     ensures fault { IfErr result (FailsBy (meaning.at_most_a_million (count_from i j))) }
 {
-    if j.get() < i.get() {
-        return Ok(0);
-    }
-    let count = (j.get() - i.get()) as usize + 1;
+    let count = count_from(i, j);
     if count > 1_000_000 {
         return Err(Fault::TooManyValues);
     }

@@ -13,14 +13,26 @@ ghost use Rattle.lua_lib.specs.Here.{is_here, CalledIf};
 mod answers;
 pub mod arguments;
 pub mod basic;
+pub mod bytes;
 mod cause;
+pub mod contents;
 pub mod data;
 pub mod fields;
+pub mod formats;
+mod items;
+pub mod joins;
 pub mod math;
+pub mod metatables;
 pub mod strings;
+pub mod tables;
+mod texts;
+pub mod tuples;
 mod types;
 
-use answers::{flag, made_text, number, one, pair, pair_or_one, some, table, text, walk};
+use answers::{
+    datum, flag, made_text, nothing, number, number_or_nil, one, one_or_none, pair, pair_or_one,
+    places, some, table, text, values, walk,
+};
 pub use cause::{Cause, Expected, LibFault};
 use lua_heap::{Heap, Native, Value};
 use std::alloc::Global;
@@ -30,8 +42,11 @@ pub use types::type_name;
 ///
 /// # Errors
 ///
-/// [`LibFault::Fails`] with the function's cause, which is want of memory where the definition has
-/// none; [`LibFault::Elsewhere`] where the function isn't one of this crate.
+/// [`LibFault::Fails`] with the function's cause. An error that the definition has leaves tables,
+/// cells, metatables and Data as they were. Want of memory is a cause that no definition has: all
+/// that the heap had made is still there then, and no more is said of it.
+///
+/// [`LibFault::Elsewhere`] where the function isn't one of this crate. The heap is then as it was.
 pub fn call(
     alloc: Global,
     heap: &mut Heap,
@@ -43,6 +58,7 @@ pub fn call(
         → Calls (λ made. made.items) heap.old heap.new
         (library (native_view native) (values_of heap.old args.now)) result }
     ensures elsewhere { IsFalse (is_here (native_view native)) → result ≡ Err Elsewhere }
+    ensures untouched { IsFalse (is_here (native_view native)) → heap.new ≡ heap.old }
     ensures made { IfOk result (λ made. AreMade heap.new made.items) }
     ensures extends { Extends heap.old heap.new }
     ensures functions { heap.new.functions ≡ heap.old.functions }
@@ -62,7 +78,9 @@ fn given(
         (library (native_view native) (values_of heap.old args.now)) result }
 {
     match native {
+        Native::Assert => values(tuples::assert(alloc, heap, args)),
         Native::CollectGarbage => number(alloc, Ok(basic::collectgarbage())),
+        Native::GetMetatable => one(alloc, metatables::getmetatable(heap, args)),
         Native::Ipairs => walk(
             alloc,
             Native::IpairsWalk,
@@ -75,13 +93,24 @@ fn given(
         Native::RawEqual => flag(alloc, Ok(basic::rawequal(heap, args))),
         Native::RawGet => one(alloc, fields::rawget(heap, args)),
         Native::RawSet => table(alloc, fields::rawset(heap, args)),
+        Native::Select => values(tuples::select(alloc, heap, args)),
+        Native::SetMetatable => table(alloc, metatables::setmetatable(heap, args)),
+        Native::ToNumber => number_or_nil(alloc, basic::tonumber(heap, args)),
         Native::TypeName => text(alloc, heap, basic::type_of(args)),
+        Native::Unpack => values(tuples::unpack(alloc, heap, args)),
+        Native::StringByte => values(bytes::byte(alloc, heap, args)),
+        Native::StringChar => made_text(alloc, heap, bytes::char(alloc, heap, args)),
+        Native::StringFind => places(alloc, bytes::find(heap, args)),
+        Native::StringFormat => made_text(alloc, heap, formats::format(alloc, heap, args)),
         Native::StringLen => number(alloc, strings::len(heap, args)),
         Native::StringLower => made_text(alloc, heap, strings::lower(alloc, heap, args)),
         Native::StringRep => made_text(alloc, heap, strings::rep(alloc, heap, args)),
         Native::StringReverse => made_text(alloc, heap, strings::reverse(alloc, heap, args)),
         Native::StringSub => made_text(alloc, heap, strings::sub(alloc, heap, args)),
         Native::StringUpper => made_text(alloc, heap, strings::upper(alloc, heap, args)),
+        Native::TableConcat => made_text(alloc, heap, joins::concat(alloc, heap, args)),
+        Native::TableInsert => nothing(alloc, tables::insert(alloc, heap, args)),
+        Native::TableRemove => one_or_none(alloc, tables::remove(alloc, heap, args)),
         Native::MathAbs => number(alloc, math::abs(heap, args)),
         Native::MathCeil => number(alloc, math::whole(heap, args)),
         Native::MathFloor => number(alloc, math::whole(heap, args)),
@@ -89,43 +118,34 @@ fn given(
         Native::MathMax => number(alloc, math::max(heap, args)),
         Native::MathMin => number(alloc, math::min(heap, args)),
         Native::MathPow => number(alloc, math::pow(heap, args)),
+        Native::LoveDataNewByteData => datum(alloc, contents::new_byte_data(alloc, heap, args)),
+        Native::LoveDataNewDataView => datum(alloc, contents::new_data_view(heap, args)),
         Native::LoveEventPump => some(alloc, &[]),
+        Native::DataGetFilename => {
+            made_text(alloc, heap, contents::get_filename(alloc, heap, args))
+        }
         Native::DataGetSize => number(alloc, data::get_size(heap, args)),
         Native::DataGetString => made_text(alloc, heap, data::get_string(alloc, heap, args)),
         Native::ObjectType => object_type(alloc, heap, args),
         Native::ObjectTypeOf => flag(alloc, data::type_of(heap, args)),
-        Native::Assert
-        | Native::Error
-        | Native::GetMetatable
-        | Native::Pcall
-        | Native::Print
-        | Native::Require
-        | Native::Select
-        | Native::SetMetatable
-        | Native::ToNumber
-        | Native::ToString
-        | Native::Unpack
-        | Native::StringByte
-        | Native::StringChar
-        | Native::StringFind
-        | Native::StringFormat
-        | Native::TableConcat
-        | Native::TableInsert
-        | Native::TableMaxn
-        | Native::TableRemove
-        | Native::TableSort
-        | Native::LoveThreadGetChannel
+        // These call functions of the program, print, or run files.
+        Native::Error | Native::Pcall | Native::Print | Native::Require | Native::ToString => Err(
+            LibFault::Elsewhere,
+        ),
+        // These are to come.
+        Native::TableMaxn | Native::TableSort => Err(LibFault::Elsewhere),
+        // These ask what all states share.
+        Native::LoveThreadGetChannel
         | Native::LoveThreadNewChannel
         | Native::LoveThreadNewThread
-        | Native::LoveDataNewByteData
-        | Native::LoveDataNewDataView
         | Native::LoveFilesystemNewFileData
         | Native::LoveFilesystemRead
         | Native::LoveEventClear
         | Native::LoveEventPoll
         | Native::LoveEventPush
         | Native::LoveEventQuit
-        | Native::ChannelClear
+        | Native::PollWalk => Err(LibFault::Elsewhere),
+        Native::ChannelClear
         | Native::ChannelDemand
         | Native::ChannelGetCount
         | Native::ChannelHasRead
@@ -133,13 +153,11 @@ fn given(
         | Native::ChannelPerformAtomic
         | Native::ChannelPop
         | Native::ChannelPush
-        | Native::ChannelSupply
-        | Native::ThreadGetError
+        | Native::ChannelSupply => Err(LibFault::Elsewhere),
+        Native::ThreadGetError
         | Native::ThreadIsRunning
         | Native::ThreadStart
-        | Native::ThreadWait
-        | Native::DataGetFilename
-        | Native::PollWalk => Err(LibFault::Elsewhere),
+        | Native::ThreadWait => Err(LibFault::Elsewhere),
     }
 }
 

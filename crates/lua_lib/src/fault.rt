@@ -35,6 +35,16 @@ pub enum Fault {
     NoSuchKey,
     /// nil as the key of a value.
     KeyIsNil,
+    /// `assert` of nil or false, without a message.
+    AssertionFailed,
+    /// A metatable that is neither a table nor nil.
+    NoMetatable,
+    /// A metatable with a field `__metatable` is to be changed.
+    Protected,
+    /// A position below 1 at which a table is to get an item.
+    PositionOutOfBounds,
+    /// An argument, counted from 0, that is an offset or a size and doesn't lie within.
+    OutOfBounds(usize),
     /// Want of memory.
     Memory,
 }

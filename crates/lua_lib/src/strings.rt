@@ -19,7 +19,7 @@ use std::alloc::{AllocError, Global};
 pub const LONGEST: usize = 16_777_216;
 
 // A place in a text of so many bytes, counted from its beginning; 0 where it lies before it.
-fn place_in(size: usize, place: Num) -> usize
+pub(crate) fn place_in(size: usize, place: Num) -> usize
     ensures { result ≡ meaning.place_in size place }
 {
     match split_sign(place) {

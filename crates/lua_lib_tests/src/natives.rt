@@ -181,6 +181,104 @@ fn data(rt: HostRuntime) -> Result<(), Fail> {
     Ok(())
 }
 
+// A function, two arguments behind 2, and what it gives.
+#[test]
+fn tuples(rt: HostRuntime) -> Result<(), Fail> {
+    let mut heap = Heap::new(rt.alloc()).map_err(|_| "no heap")?;
+    let mark = &text(&mut heap, b"#");
+    let digits = &text(&mut heap, b"ff");
+    let word = &text(&mut heap, b"hello");
+    let ell = &text(&mut heap, b"l");
+    let letters = &text(&mut heap, b"abc");
+    let rows: [(Native, &Value, &Value, &Value, &[Value]); 9] = [
+        (
+            Native::Assert,
+            &num(1),
+            &num(2),
+            &num(3),
+            &[num(1), num(2), num(3)],
+        ),
+        (Native::Select, &num(2), &num(5), &num(6), &[num(6)]),
+        (
+            Native::Select,
+            &num(-2),
+            &num(5),
+            &num(6),
+            &[num(5), num(6)],
+        ),
+        (Native::Select, mark, &num(5), &num(6), &[num(2)]),
+        (Native::ToNumber, digits, &num(16), &num(0), &[num(255)]),
+        (Native::ToNumber, digits, &num(10), &num(0), &[Value::Nil]),
+        (
+            Native::StringByte,
+            word,
+            &num(1),
+            &num(2),
+            &[num(104), num(101)],
+        ),
+        (
+            Native::StringChar,
+            &num(97),
+            &num(98),
+            &num(99),
+            &[*letters],
+        ),
+        (Native::StringFind, word, ell, &num(4), &[num(4), num(4)]),
+    ];
+    for (native, a, b, c, wanted) in rows {
+        assert!(rt;
+            gives(rt.alloc(), &mut heap, native, a, b, c, wanted),
+            "{native:?}"
+        );
+    }
+    Ok(())
+}
+
+// A table's metatable, before it is set and then.
+#[test]
+fn metatables(rt: HostRuntime) -> Result<(), Fail> {
+    let mut heap = Heap::new(rt.alloc()).map_err(|_| "no heap")?;
+    let table = &Value::Table(heap.new_table().map_err(|_| "no table")?);
+    let meta = &Value::Table(heap.new_table().map_err(|_| "no table")?);
+    let rows: [(Native, &Value); 3] = [
+        (Native::GetMetatable, &Value::Nil),
+        (Native::SetMetatable, table),
+        (Native::GetMetatable, meta),
+    ];
+    for (native, wanted) in rows {
+        assert!(rt;
+            gives(rt.alloc(), &mut heap, native, table, meta, meta, &[*wanted]),
+            "{native:?}"
+        );
+    }
+    Ok(())
+}
+
+// Items that are put, moved, read, joined and taken.
+#[test]
+fn items(rt: HostRuntime) -> Result<(), Fail> {
+    let mut heap = Heap::new(rt.alloc()).map_err(|_| "no heap")?;
+    let table = &Value::Table(heap.new_table().map_err(|_| "no table")?);
+    let comma = &text(&mut heap, b",");
+    let joined = &text(&mut heap, b"8,7");
+    let one = &num(1);
+    let two = &num(2);
+    let rows: [(Native, &Value, &Value, &[Value]); 5] = [
+        (Native::TableInsert, one, &num(7), &[]),
+        (Native::TableInsert, one, &num(8), &[]),
+        (Native::Unpack, one, two, &[num(8), num(7)]),
+        (Native::TableConcat, comma, one, &[*joined]),
+        (Native::TableRemove, one, one, &[num(8)]),
+    ];
+    for (native, a, b, wanted) in rows {
+        assert!(rt;
+            gives(rt.alloc(), &mut heap, native, table, a, b, wanted),
+            "{native:?}"
+        );
+    }
+    Ok(())
+}
+
 // A field for nil, a key that was never set, an argument of the wrong type, a function of the
 // machine.
 #[test]

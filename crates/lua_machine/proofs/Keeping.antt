@@ -105,7 +105,7 @@ wants_more base slots more (UntruthTo n) le fits = omega (arith, le, fits)
 wants_more base slots more ToTail le fits = tt
 wants_more base slots more Nothing le fits = tt
 
-waiting_more : (chunks : List Chunk) (slots more cells further : ℕ) → slots ≤ more → cells ≤ further → (f : Frame) → IsWaiting chunks slots cells f → IsWaiting chunks more further f
+pub waiting_more : (chunks : List Chunk) (slots more cells further : ℕ) → slots ≤ more → cells ≤ further → (f : Frame) → IsWaiting chunks slots cells f → IsWaiting chunks more further f
 waiting_more chunks slots more cells further le lf f w =
     let s = w.placed.room in
     let c = w.placed.height in

@@ -31,7 +31,7 @@ row_later : (texts : List Bytes) (x : Value) (xs : List Value) (n count : ℕ) �
 row_later texts x xs n zero = refl
 row_later texts x xs n (suc count) = ap (λ vs. slots_view texts xs n ∷ vs) (row_later texts x xs (suc n) count)
 
-row_taken : (texts : List Bytes) (xs : List Value) (n count : ℕ) → n + count ≤ length xs → map (value_view texts) (take count (drop n xs)) ≡ row (slots_view texts xs) n count
+pub row_taken : (texts : List Bytes) (xs : List Value) (n count : ℕ) → n + count ≤ length xs → map (value_view texts) (take count (drop n xs)) ≡ row (slots_view texts xs) n count
 row_taken texts xs n zero le = refl
 row_taken texts [] n (suc count) le = absurd (let e : ⊥ = omega (arith, le) in e)
 row_taken texts (x ∷ xs) zero (suc count) le = ap (λ vs. value_view texts x ∷ vs) (row_taken texts xs zero count (omega (arith, le)) ∙ sym (row_later texts x xs zero count))

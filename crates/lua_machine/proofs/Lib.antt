@@ -17,3 +17,8 @@ pub mod Filling
 pub mod NewCells
 pub mod Closing
 pub mod Extra
+pub mod InSlots
+pub mod Begun
+pub mod Called
+pub mod Entered
+pub mod Invoking

@@ -6,7 +6,7 @@ use Rattle.lua_heap.specs.Value.{value_view}
 use Rattle.lua_heap.specs.Heap.{IsMade}
 use Rattle.lua_code.specs.Instr as i
 use Rattle.lua_code.specs.declared.instr.Instr.{Instr}
-use Rattle.lua_code.specs.declared.instr.Instr.TheVariants.{Move, Const, GetCell, SetCell, SetCellConst, NewCell, Close, NewTable, SetItem, SetItemConst, SetRest, SetNew, SetNewConst, SetNewNamed, SetNewNamedConst, FirstExtra, AllExtra, Tick, Skip, SkipIf, SkipUnless, BackIf, BackUnless, ForBegin, ForNext, Leave}
+use Rattle.lua_code.specs.declared.instr.Instr.TheVariants.{Move, Const, GetCell, SetCell, SetCellConst, NewCell, Close, NewTable, SetItem, SetItemConst, SetRest, SetNew, SetNewConst, SetNewNamed, SetNewNamedConst, FirstExtra, AllExtra, Invoke, InvokeAll, Spread, Tick, Skip, SkipIf, SkipUnless, BackIf, BackUnless, ForBegin, ForNext, EachNext, Leave}
 use Rattle.lua_code.specs.declared.instr.Site.{Site}
 use Rattle.lua_code.specs.View.{ProtoView, Inner, inners, site_view, instr_view}
 use Rattle.lua_code.specs.State.{Step, on, stop, no_ticks, ended}
@@ -14,8 +14,9 @@ use Rattle.lua_code.specs.Frames.{raised}
 use Rattle.lua_code.specs.Act.{act_on}
 use Rattle.lua_machine.specs.declared.status.Status.{Status}
 use Rattle.lua_machine.specs.declared.status.Status.TheVariants.{Goes, NoTick, Raises, Ends, NotYet}
-use Rattle.lua_machine.specs.View.{EngineView, protos_at, run_of, frames_of, registers_of, state_of, config_of}
+use Rattle.lua_machine.specs.View.{EngineView, value_at, protos_at, run_of, frames_of, registers_of, state_of, config_of}
 use Rattle.lua_machine.specs.Turns.{numbers_at}
+use Rattle.lua_machine.specs.Callees.{CallsLibrary}
 use Rattle.lua_machine.specs.Ready.{IsReady}
 
 -- ---- instructions
@@ -70,7 +71,8 @@ step_as (Raises v) asks m step =
 step_as Ends asks m step = stop (ended (map (value_view m.heap.texts) m.tail) (state_of asks m))
 step_as NotYet asks m step = step
 
--- an instruction that the engine doesn't do yet; a loop begins only where it has three numbers
+-- an instruction that the engine doesn't do yet; a loop begins only where it has three numbers, and a function of the
+-- library isn't called
 abbrev pub IsElsewhere : Instr → EngineView → Type 0
 IsElsewhere (Move to from) m = ⊥
 IsElsewhere (Const to n) m = ⊥
@@ -98,6 +100,10 @@ IsElsewhere (BackUnless from count) m = ⊥
 IsElsewhere (ForNext at count) m = ⊥
 IsElsewhere (Leave from count tailed) m = ⊥
 IsElsewhere (ForBegin at count) m = numbers_at m at ≡ None
+IsElsewhere (Spread from count tailed) m = ⊥
+IsElsewhere (EachNext at count) m = ⊥
+IsElsewhere (Invoke to at count tailed) m = CallsLibrary m (value_at m.values (m.base + at))
+IsElsewhere (InvokeAll at count tailed) m = CallsLibrary m (value_at m.values (m.base + at))
 IsElsewhere x m = ⊤
 
 -- what is kept: the engine is ready for the next instruction; an error is a value of the heap; and where nothing was done

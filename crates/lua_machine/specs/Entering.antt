@@ -1,7 +1,18 @@
--- A function begins: its slots are there.
-use Rattle.std.specs.Prelude.{◌≡◌, ℕ, ◌≤◌, List, length}
+-- A function of Lua begins: its slots and cells are there, and so are its arguments.
+use Rattle.std.specs.Prelude.{◌≡◌, ℕ, ◌+◌, ◌^◌, ◌<◌, ◌≤◌, List, ◌++◌, length, map}
 use Rattle.lua_heap.specs.declared.value.Value.{Value}
-use Rattle.lua_machine.specs.View.{EngineView, slots_view}
+use Rattle.lua_heap.specs.Value.{value_view}
+use Rattle.lua_heap.specs.Heap.{function_at}
+use Rattle.lua_code.specs.Valid.{Leads, cells_at}
+use Rattle.lua_code.specs.State.{put_values, put_all}
+use Rattle.lua_code.specs.Frames.{extra_of}
+use Rattle.lua_machine.specs.declared.arguments.Behind.{Behind}
+use Rattle.lua_machine.specs.declared.frame.Wants.{Wants}
+use Rattle.lua_machine.specs.View.{EngineView, cell_at, slots_view, proto_at}
+use Rattle.lua_code.specs.View.{ProtoView}
+use Rattle.lua_machine.specs.Frames.{pushed}
+use Rattle.lua_machine.specs.Ready.{WantsFit, IsCode, IsReady}
+use Rattle.lua_machine.specs.Arguments.{args_at}
 
 -- there are slots up to a place, and all is as it was
 pub record HasGrown (end : ℕ) (old new : EngineView) : Type 0 where
@@ -10,3 +21,68 @@ pub record HasGrown (end : ℕ) (old new : EngineView) : Type 0 where
   pub long : end ≤ length values
   pub longer : length old.values ≤ length values
   pub same : slots_view old.heap.texts values ≡ slots_view old.heap.texts old.values
+
+-- a function that the heap has made is one of a chunk's
+pub record HasFunction (m : EngineView) (id : ℕ) : Type 0 where
+  pub made : id < length m.heap.functions
+  pub code : IsCode m.chunks (function_at m.heap id)
+
+-- the code of a function
+abbrev pub proto_for : EngineView → (id : ℕ) → ProtoView
+proto_for m id = proto_at m.chunks (function_at m.heap id).code (function_at m.heap id).proto
+
+-- the running function may wait: there is a next instruction, and a slot for what is wanted; so are the slots of the
+-- arguments
+pub record CanCall (wants : Wants) (first count : ℕ) (m : EngineView) : Type 0 where
+  pub ready : IsReady m
+  pub short : m.pc + 1 < 2 ^ 32
+  pub leads : Leads m.proto (cells_at m.proto m.pc) (m.pc + 1)
+  pub fits : WantsFit m.base (length m.values) wants
+  pub slots : first + count ≤ length m.values
+
+-- a function is at its first instruction
+abbrev pub begun_at : EngineView → (id base cell_base : ℕ) → EngineView
+begun_at m id base cell_base =
+    record m {
+      proto = proto_for m id;
+      chunk = (function_at m.heap id).code;
+      func = (function_at m.heap id).proto;
+      pc = 0;
+      base = base;
+      cell_base = cell_base;
+    }
+
+-- where the cells of a function begin that is called
+abbrev pub free_cells : EngineView → ℕ
+free_cells m = m.cell_base + cells_at m.proto m.pc
+
+-- with other slots, cells and extra arguments, the running function waits and another one begins
+abbrev pub entered : Wants → (id first : ℕ) → (values : List Value) → (cells : List ℕ) →
+    (extra : List Value) → EngineView → EngineView
+entered wants id first values cells extra m =
+    begun_at (record (pushed m wants) {
+      values = values;
+      cells = cells;
+      extras = m.extras ++ extra;
+    }) id first (free_cells m)
+
+-- a function began on its arguments
+pub record HasEntered (wants : Wants) (id first count : ℕ) (behind : Behind) (old new : EngineView) :
+    Type 0 where
+  pub values : List Value
+  pub cells : List ℕ
+  pub extra : List Value
+  pub is : new ≡ entered wants id first values cells extra old
+  pub slots_are :
+      slots_view old.heap.texts values
+      ≡ put_values (slots_view old.heap.texts old.values) first (proto_for old id).params
+      (args_at old first count behind)
+  pub cells_are :
+      cell_at cells ≡ put_all (cell_at old.cells) (free_cells old) (function_at old.heap id).cells
+  pub extra_is :
+      map (value_view old.heap.texts) extra
+      ≡ extra_of (proto_for old id).varargs (proto_for old id).params (args_at old first count behind)
+  pub room : first + (proto_for old id).size ≤ length values
+  pub longer : length old.values ≤ length values
+  pub height : free_cells old + length (function_at old.heap id).cells ≤ length cells
+  pub taller : length old.cells ≤ length cells

@@ -4,11 +4,14 @@ pub mod Constants
 pub mod Results
 pub mod Ready
 pub mod Turns
+pub mod Callees
 pub mod Does
 pub mod Numbers
 pub mod Frames
-pub mod Entering
 pub mod Runs
 pub mod Starting
 pub mod Errors
 pub mod Changes
+pub mod Arguments
+pub mod Entering
+pub mod Calling

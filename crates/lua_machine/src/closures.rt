@@ -16,7 +16,7 @@ use lua_heap::{CellId, Value};
 
 impl<'a> Engine<'a> {
     // A place of the list of cells gets one; it is in the list or the next one.
-    fn put_cell(&mut self, at: usize, id: CellId) -> Result<(), Memory>
+    pub(crate) fn put_cell(&mut self, at: usize, id: CellId) -> Result<(), Memory>
         requires at { at ≤ length self.old.cells }
         requires made { id < length self.old.heap.cells }
         ensures { OnOk result (self.new

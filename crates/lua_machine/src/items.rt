@@ -70,7 +70,7 @@ fn fill(heap: &mut Heap, table: &Value, first: u32, values: &[Value]) -> Result<
 impl<'a> Engine<'a> {
     // The next instruction comes.
     #[inline]
-    fn pass(&mut self)
+    pub(crate) fn pass(&mut self)
         requires pc { self.old.pc + 1 < 2 ^ 32 }
         ensures { self.new ≡ at_pc self.old (self.old.pc + 1) }
     {

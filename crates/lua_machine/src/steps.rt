@@ -95,6 +95,22 @@ impl<'a> Engine<'a> {
                 name,
                 constant,
             } => self.set_new_named_const(table, name, constant),
+            Instr::Invoke {
+                to,
+                at,
+                count,
+                tailed,
+            } => self.invoke(to, at, count, tailed),
+            Instr::InvokeAll { at, count, tailed } => self.invoke_all(at, count, tailed),
+            Instr::Spread {
+                from,
+                count,
+                tailed,
+            } => {
+                self.spread(from, count, tailed);
+                Ok(Status::Goes)
+            }
+            Instr::EachNext { at, count } => Ok(self.each_next(at, count)),
             Instr::Leave {
                 from,
                 count,
@@ -111,11 +127,7 @@ impl<'a> Engine<'a> {
             | Instr::SetNamed { .. }
             | Instr::SetNamedConst { .. }
             | Instr::SetGlobal { .. }
-            | Instr::SetGlobalConst { .. }
-            | Instr::Invoke { .. }
-            | Instr::InvokeAll { .. }
-            | Instr::Spread { .. }
-            | Instr::EachNext { .. } => Ok(Status::NotYet),
+            | Instr::SetGlobalConst { .. } => Ok(Status::NotYet),
         }
     }
 

@@ -6,13 +6,15 @@ ghost use Rattle.lua_meaning.specs.Arguments.{Lib, answers};
 ghost use Rattle.lua_heap.specs.Value.{value_view};
 ghost use Rattle.lua_heap.specs.Native.{native_view};
 ghost use Rattle.lua_heap.specs.Next.{IsMadePair};
+ghost use Rattle.lua_heap.specs.Index.{IsMadeOption};
 ghost use Rattle.lua_heap.specs.Heap.{HeapView, IsMade, Extends, store_of};
-ghost use Rattle.lua_lib.specs.Causes.{AreMade, values_of, one_number, one_text};
-ghost use Rattle.lua_lib.specs.Runs.{Runs, Calls, pair_or_nil, pair_or_none};
+ghost use Rattle.lua_meaning.specs.Basic.{number_value};
+ghost use Rattle.lua_lib.specs.Causes.{AreMade, values_of, one_number, one_text, places_or_nil};
+ghost use Rattle.lua_lib.specs.Runs.{Runs, Calls, pair_or_nil, pair_or_none, value_or_none};
 
 use crate::Fault;
 use crate::call::cause::{Cause, LibFault};
-use lua_heap::{Heap, Native, TableId, Value};
+use lua_heap::{DataId, Heap, Native, TableId, Value};
 use lua_value::Num;
 use std::alloc::Global;
 
@@ -53,6 +55,54 @@ pub(crate) fn number(alloc: Global, given: Result<Num, Cause>) -> Result<Vec<Val
 {
     match given {
         Ok(n) => some(alloc, &[Value::Num(n)]),
+        Err(cause) => Err(LibFault::Fails(cause)),
+    }
+}
+
+// One number, or nil.
+pub(crate) fn number_or_nil(
+    alloc: Global,
+    given: Result<Option<Num>, Cause>,
+) -> Result<Vec<Value>, LibFault>
+    ensures calls { (before after : HeapView) (part : Lib (List meant.Value))
+        → Runs (λ number. number_value number ∷ []) before after part given
+        → Calls (λ made. made.items) before after part result }
+    ensures made { (h : HeapView) → IfOk result (λ made. AreMade h made.items) }
+{
+    match given {
+        Ok(Some(n)) => some(alloc, &[Value::Num(n)]),
+        Ok(None) => some(alloc, &[Value::Nil]),
+        Err(cause) => Err(LibFault::Fails(cause)),
+    }
+}
+
+// Two places, or nil.
+pub(crate) fn places(
+    alloc: Global,
+    given: Result<Option<(Num, Num)>, Cause>,
+) -> Result<Vec<Value>, LibFault>
+    ensures calls { (before after : HeapView) (part : Lib (List meant.Value))
+        → Runs places_or_nil before after part given
+        → Calls (λ made. made.items) before after part result }
+    ensures made { (h : HeapView) → IfOk result (λ made. AreMade h made.items) }
+{
+    match given {
+        Ok(Some((first, last))) => some(alloc, &[Value::Num(first), Value::Num(last)]),
+        Ok(None) => some(alloc, &[Value::Nil]),
+        Err(cause) => Err(LibFault::Fails(cause)),
+    }
+}
+
+// Values that were made.
+pub(crate) fn values(given: Result<Vec<Value>, Cause>) -> Result<Vec<Value>, LibFault>
+    ensures calls { (before after : HeapView) (part : Lib (List meant.Value))
+        → Runs (λ made. values_of after made.items) before after part given
+        → Calls (λ made. made.items) before after part result }
+    ensures made { (h : HeapView) → IfOk given (λ made. AreMade h made.items)
+        → IfOk result (λ made. AreMade h made.items) }
+{
+    match given {
+        Ok(made) => Ok(made),
         Err(cause) => Err(LibFault::Fails(cause)),
     }
 }
@@ -170,6 +220,51 @@ pub(crate) fn made_text(
 {
     match given {
         Ok(made) => text(alloc, heap, &made),
+        Err(cause) => Err(LibFault::Fails(cause)),
+    }
+}
+
+// Nothing.
+pub(crate) fn nothing(alloc: Global, given: Result<(), Cause>) -> Result<Vec<Value>, LibFault>
+    ensures calls { (before after : HeapView) (part : Lib (List meant.Value))
+        → Runs (λ done. []) before after part given
+        → Calls (λ made. made.items) before after part result }
+    ensures made { (h : HeapView) → IfOk result (λ made. AreMade h made.items) }
+{
+    match given {
+        Ok(()) => some(alloc, &[]),
+        Err(cause) => Err(LibFault::Fails(cause)),
+    }
+}
+
+// A value, or nothing.
+pub(crate) fn one_or_none(
+    alloc: Global,
+    given: Result<Option<Value>, Cause>,
+) -> Result<Vec<Value>, LibFault>
+    ensures calls { (before after : HeapView) (part : Lib (List meant.Value))
+        → Runs (value_or_none after.texts) before after part given
+        → Calls (λ made. made.items) before after part result }
+    ensures made { (h : HeapView) → IfOk given (IsMadeOption h)
+        → IfOk result (λ made. AreMade h made.items) }
+{
+    match given {
+        Ok(Some(value)) => some(alloc, &[value]),
+        Ok(None) => some(alloc, &[]),
+        Err(cause) => Err(LibFault::Fails(cause)),
+    }
+}
+
+// Data.
+pub(crate) fn datum(alloc: Global, given: Result<DataId, Cause>) -> Result<Vec<Value>, LibFault>
+    ensures calls { (before after : HeapView) (part : Lib (List meant.Value))
+        → Runs (λ made. meant.datum made ∷ []) before after part given
+        → Calls (λ made. made.items) before after part result }
+    ensures made { (h : HeapView) → IfOk given (λ made. made < length h.contents)
+        → IfOk result (λ made. AreMade h made.items) }
+{
+    match given {
+        Ok(made) => some(alloc, &[Value::Data(made)]),
         Err(cause) => Err(LibFault::Fails(cause)),
     }
 }

@@ -1,15 +1,18 @@
 //! How functions read their arguments, which are counted from 0.
 
-ghost use Rattle.std.specs.Prelude.{◌≡◌, ◌<◌, List, map, IfOk, MatchOption, None, Some, length};
+ghost use Rattle.std.specs.Prelude.{◌≡◌, ◌<◌, [], List, map, IfOk, MatchOption, None, Some, length, pos};
 ghost use Rattle.lua_tree.specs.Tree.{Bytes};
 ghost use Rattle.lua_meaning.specs.Arguments as meaning;
 ghost use Rattle.lua_meaning.specs.Text.{as_number, as_text};
 ghost use Rattle.lua_heap.specs.Value.{value_view};
-ghost use Rattle.lua_heap.specs.Heap.{HeapView, IsMade};
+ghost use Rattle.lua_meaning.specs.Store.{border};
+ghost use Rattle.lua_heap.specs.Heap.{HeapView, IsMade, store_of};
 ghost use Rattle.lua_lib.specs.Causes.{AreMade, values_of, Comes};
 
+use crate::Fault;
 use crate::basic::read;
 use crate::call::cause::{Cause, Expected};
+use crate::signed::natural;
 use itoa::Buffer;
 use lua_heap::{DataId, Heap, TableId, Value};
 use lua_value::Num;
@@ -77,6 +80,30 @@ pub fn number_or(heap: &Heap, args: &[Value], n: usize, default: Num) -> Result<
     }
 }
 
+/// The same, with a default that is a natural number; one that is over 99,999,999,999,999 is want of
+/// memory.
+pub fn number_or_natural(heap: &Heap, args: &[Value], n: usize, default: u64) -> Result<Num, Cause>
+    requires { AreMade heap.now args.now }
+    ensures { Comes (λ number. number) heap.now
+        (meaning.number_or n (values_of heap.now args.now) (pos default)) result }
+{
+    match natural(default) {
+        Some(default) => number_or(heap, args, n, default),
+        None => Err(Cause::By(Fault::Memory)),
+    }
+}
+
+/// The same, with the border of a table as the default (Lua 5.1 manual §2.5.5).
+pub fn number_or_border(heap: &Heap, args: &[Value], n: usize, table: TableId) -> Result<Num, Cause>
+    requires args { AreMade heap.now args.now }
+    requires table { table < length heap.now.tables }
+    ensures { Comes (λ number. number) heap.now
+        (meaning.number_or n (values_of heap.now args.now) (pos (border (store_of heap.now) table)))
+        result }
+{
+    number_or_natural(heap, args, n, heap.border(table))
+}
+
 /// A string, or a number's digits.
 pub fn text_argument<'a>(
     heap: &'a Heap,
@@ -92,6 +119,23 @@ pub fn text_argument<'a>(
     match as_text(heap, &value, digits) {
         Some(text) => Ok(text),
         None => Err(Cause::Wants(n, Expected::Text, value)),
+    }
+}
+
+/// The same, empty where it is nil.
+pub fn text_or_empty<'a>(
+    heap: &'a Heap,
+    args: &[Value],
+    n: usize,
+    digits: &'a mut Buffer,
+) -> Result<&'a [u8], Cause>
+    requires { AreMade heap.now args.now }
+    ensures { Comes (λ text. text.now) heap.now
+        (meaning.text_or n (values_of heap.now args.now) []) result }
+{
+    match argument(args, n) {
+        Value::Nil => Ok(b""),
+        _ => text_argument(heap, args, n, digits),
     }
 }
 

@@ -9,6 +9,8 @@ ghost use Rattle.lua_lib.specs.Causes.{expected_text};
 use crate::Fault;
 use love_base::Memory;
 use lua_heap::Value;
+use lua_value::Num;
+use std::alloc::{AllocError, AllocFailed};
 
 /// What is wanted of an argument.
 #[derive(Clone, Copy, Debug, PartialEq, Eq)]
@@ -44,6 +46,10 @@ pub enum Cause {
     Wants(usize, Expected, Value),
     /// A fault of the function itself.
     By(Fault),
+    /// A table's value at a number, which `table.concat` can't take as a text.
+    NoText(Num, Value),
+    /// A value that a program gave as the error.
+    Raises(Value),
 }
 
 /// Why a call gives no values.
@@ -67,6 +73,22 @@ impl From<Memory> for Cause {
     ghost from_gives = { λ _ cause. cause ≡ By WantOfMemory };
 
     fn from(_refused: Memory) -> Cause {
+        Cause::By(Fault::Memory)
+    }
+}
+
+impl From<AllocError> for Cause {
+    ghost from_gives = { λ _ cause. cause ≡ By WantOfMemory };
+
+    fn from(_refused: AllocError) -> Cause {
+        Cause::By(Fault::Memory)
+    }
+}
+
+impl<T: Drop> From<AllocFailed<T>> for Cause {
+    ghost from_gives = { λ _ cause. cause ≡ By WantOfMemory };
+
+    fn from(_refused: AllocFailed<T>) -> Cause {
         Cause::By(Fault::Memory)
     }
 }

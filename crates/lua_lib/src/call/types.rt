@@ -1,7 +1,8 @@
-//! The names of the types of values.
+//! The types of values, and which count as true.
 
 ghost use Rattle.std.specs.Prelude.{◌≡◌, List};
 ghost use Rattle.lua_tree.specs.Tree.{Bytes};
+ghost use Rattle.lua_meaning.specs.Value as meant;
 ghost use Rattle.lua_meaning.specs.Text.{type_name};
 ghost use Rattle.lua_heap.specs.Value.{value_view};
 
@@ -22,5 +23,16 @@ pub fn type_name(value: &Value) -> &'static [u8]
         Value::Channel(_) => b"userdata",
         Value::Thread(_) => b"userdata",
         Value::Data(_) => b"userdata",
+    }
+}
+
+/// Whether a value is one but nil and false (Lua 5.1 manual §2.2).
+pub(crate) fn is_true(value: &Value) -> bool
+    ensures { (texts : List Bytes) → result ≡ meant.is_true (value_view texts value.now) }
+{
+    match *value {
+        Value::Nil => false,
+        Value::Bool(flag) => flag,
+        _ => true,
     }
 }

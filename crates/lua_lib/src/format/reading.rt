@@ -1,6 +1,6 @@
 //! What stands behind a `%` of a format.
 
-ghost use Rattle.std.specs.Prelude.{ℕ, List, IfOk, IfErr};
+ghost use Rattle.std.specs.Prelude.{ℕ, ◌<◌, List, length, IfOk, IfErr};
 ghost use Rattle.lua_meaning.specs.Value.{Value};
 ghost use Rattle.lua_meaning.specs.Format as meaning;
 ghost use Rattle.lua_lib.specs.Faults.{FailsBy};
@@ -23,6 +23,7 @@ pub enum Directive {
 /// [`Fault::InvalidFormat`] where the format ends there.
 pub fn read_directive(text: &[u8]) -> Result<(Directive, &[u8]), Fault>
     ensures ok { IfOk result (λ read. IsDirective text.now read.0 read.1.now) }
+    ensures shorter { IfOk result (λ read. length read.1.now < length text.now) }
     ensures fault { IfErr result (λ fault. (n : ℕ) (args : List Value) →
         FailsBy (meaning.item_from text.now meaning.plain_item n args) fault) }
 {

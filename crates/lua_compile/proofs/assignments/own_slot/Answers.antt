@@ -6,7 +6,7 @@ use Rattle.lua_compile.proofs.assignments.own_slot.Goals.{then-targets-ne1-via-t
 
 pub returns-then-targets-ne1-clause-slot : goal.returns-then-targets-ne1-clause-slot
 returns-then-targets-ne1-clause-slot c = elim c.then-targets-ne1.branch [
-  then-targets-ne1-via-then-targets-ne1 w ↦ own_many c.args.targets.now c.args.values.now c.args.scope.now (λ m n. w.if-targets-ne1.true m)
+  | then-targets-ne1-via-then-targets-ne1 w ↦ own_many c.args.targets.now c.args.values.now c.args.scope.now (λ m n. w.if-targets-ne1.true m)
   | then-targets-ne1-via-else-targets-ne1+then-values-ne1 w ↦ own_many c.args.targets.now c.args.values.now c.args.scope.now (λ m n. w.if-values-ne1.true n)
 ]
 

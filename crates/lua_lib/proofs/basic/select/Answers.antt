@@ -17,3 +17,12 @@ returns-in-Minus-clause-ok g c =
     let place : length xs - c.in-Minus.behind - 1 ≡ length xs - suc c.in-Minus.behind = omega arith in
     select-behind c.args.n c.in-Minus.behind xs _ c.in-Minus.ensures (omega arith)
     (take_rest xs passed ∙ ap (λ (m : ℕ). drop m xs) place)
+
+pub returns-in-Plus-clause-last : goal.returns-in-Plus-clause-last
+returns-in-Plus-clause-last g c = (c.min.result, take_rest c.args.arguments.now c.min.result)
+
+pub returns-in-Minus-clause-last : goal.returns-in-Minus-clause-last
+returns-in-Minus-clause-last g c =
+    let xs = c.args.arguments.now in
+    let passed : ℕ = length xs - c.in-Minus.behind - 1 in
+    (passed, take_rest xs passed)

@@ -1,8 +1,4 @@
-use Rattle.lua_meaning.specs.Library.{library}
-use Rattle.lua_heap.specs.Native.{native_view}
-use Rattle.lua_lib.specs.Causes.{values_of}
-use Rattle.lua_lib.specs.Here.{is_here}
-use Rattle.lua_lib.proofs.Calling.{called-here, called-elsewhere, called-made, called-extends, called-functions}
+use Rattle.lua_lib.proofs.Calling.{called-here, called-elsewhere, called-untouched, called-made, called-extends, called-functions}
 use Rattle.lua_lib.proofs.call.call.Goals as goal
 
 pub returns-clause-calls : goal.returns-clause-calls
@@ -10,6 +6,9 @@ returns-clause-calls c = called-here _ _ _ _ _ _ c.given.ensures
 
 pub returns-clause-elsewhere : goal.returns-clause-elsewhere
 returns-clause-elsewhere c = called-elsewhere _ _ _ _ _ _ c.given.ensures
+
+pub returns-clause-untouched : goal.returns-clause-untouched
+returns-clause-untouched c = called-untouched _ _ _ _ _ _ c.given.ensures
 
 pub returns-clause-made : goal.returns-clause-made
 returns-clause-made c = called-made _ _ _ _ _ _ c.given.ensures

@@ -50,7 +50,7 @@ pub returns-in-RawGet : goal.returns-in-RawGet
 returns-in-RawGet c =
     let h = c.args.heap.now in
     let vs = values_of h c.args.args.now in
-    called-by _ _ _ _ variant.RawGet vs _ c.in-RawGet.is (called-same _ h _ _ (c.one.ensures.calls h h (library (native_view variant.RawGet) vs) c.rawget.ensures.runs) (c.one.ensures.made h c.rawget.ensures.made))
+    called-by _ _ _ _ variant.RawGet vs _ c.in-RawGet.is (called-same _ h _ _ (c.one-in-RawGet.ensures.calls h h (library (native_view variant.RawGet) vs) c.rawget.ensures.runs) (c.one-in-RawGet.ensures.made h c.rawget.ensures.made))
 
 pub returns-in-RawSet : goal.returns-in-RawSet
 returns-in-RawSet c =
@@ -74,7 +74,7 @@ pub returns-in-StringLower : goal.returns-in-StringLower
 returns-in-StringLower c =
     let h = c.args.heap.now in
     let vs = values_of h c.args.args.now in
-    called-by _ _ _ _ variant.StringLower vs _ c.in-StringLower.is (record { calls = c.made_text.ensures.calls (library (native_view variant.StringLower) vs) (comes-runs _ h (library (native_view variant.StringLower) vs) _ c.lower.ensures); made = c.made_text.ensures.made; extends = c.made_text.ensures.extends; functions = c.made_text.ensures.functions })
+    called-by _ _ _ _ variant.StringLower vs _ c.in-StringLower.is (record { calls = c.made_text-in-StringLower.ensures.calls (library (native_view variant.StringLower) vs) (comes-runs _ h (library (native_view variant.StringLower) vs) _ c.lower.ensures); made = c.made_text-in-StringLower.ensures.made; extends = c.made_text-in-StringLower.ensures.extends; functions = c.made_text-in-StringLower.ensures.functions })
 
 pub returns-in-StringRep : goal.returns-in-StringRep
 returns-in-StringRep c =
@@ -169,3 +169,99 @@ returns-in-ObjectTypeOf c =
 pub returns-in-ObjectType : goal.returns-in-ObjectType
 returns-in-ObjectType c =
     called-by _ _ _ _ variant.ObjectType (values_of c.args.heap.now c.args.args.now) _ c.in-ObjectType.is c.object_type.ensures
+
+pub returns-in-Assert : goal.returns-in-Assert
+returns-in-Assert c =
+    let h = c.args.heap.now in
+    let vs = values_of h c.args.args.now in
+    called-by _ _ _ _ variant.Assert vs _ c.in-Assert.is (called-same _ h _ _ (c.values.ensures.calls h h (library (native_view variant.Assert) vs) (comes-runs _ h (library (native_view variant.Assert) vs) _ c.assert.ensures.given)) (c.values.ensures.made h c.assert.ensures.made))
+
+pub returns-in-Select : goal.returns-in-Select
+returns-in-Select c =
+    let h = c.args.heap.now in
+    let vs = values_of h c.args.args.now in
+    called-by _ _ _ _ variant.Select vs _ c.in-Select.is (called-same _ h _ _ (c.values-in-Select.ensures.calls h h (library (native_view variant.Select) vs) (comes-runs _ h (library (native_view variant.Select) vs) _ c.select.ensures.given)) (c.values-in-Select.ensures.made h c.select.ensures.made))
+
+pub returns-in-StringByte : goal.returns-in-StringByte
+returns-in-StringByte c =
+    let h = c.args.heap.now in
+    let vs = values_of h c.args.args.now in
+    called-by _ _ _ _ variant.StringByte vs _ c.in-StringByte.is (called-same _ h _ _ (c.values-in-StringByte.ensures.calls h h (library (native_view variant.StringByte) vs) (comes-runs _ h (library (native_view variant.StringByte) vs) _ c.byte.ensures.given)) (c.values-in-StringByte.ensures.made h c.byte.ensures.made))
+
+pub returns-in-Unpack : goal.returns-in-Unpack
+returns-in-Unpack c =
+    let h = c.args.heap.now in
+    let vs = values_of h c.args.args.now in
+    called-by _ _ _ _ variant.Unpack vs _ c.in-Unpack.is (called-same _ h _ _ (c.values-in-Unpack.ensures.calls h h (library (native_view variant.Unpack) vs) c.unpack.ensures.runs) (c.values-in-Unpack.ensures.made h c.unpack.ensures.made))
+
+pub returns-in-ToNumber : goal.returns-in-ToNumber
+returns-in-ToNumber c =
+    let h = c.args.heap.now in
+    let vs = values_of h c.args.args.now in
+    called-by _ _ _ _ variant.ToNumber vs _ c.in-ToNumber.is (called-same _ h _ _ (c.number_or_nil.ensures.calls h h (library (native_view variant.ToNumber) vs) (comes-runs _ h (library (native_view variant.ToNumber) vs) _ c.tonumber.ensures)) (c.number_or_nil.ensures.made h))
+
+pub returns-in-StringFind : goal.returns-in-StringFind
+returns-in-StringFind c =
+    let h = c.args.heap.now in
+    let vs = values_of h c.args.args.now in
+    called-by _ _ _ _ variant.StringFind vs _ c.in-StringFind.is (called-same _ h _ _ (c.places.ensures.calls h h (library (native_view variant.StringFind) vs) (comes-runs _ h (library (native_view variant.StringFind) vs) _ c.find.ensures)) (c.places.ensures.made h))
+
+pub returns-in-StringChar : goal.returns-in-StringChar
+returns-in-StringChar c =
+    let h = c.args.heap.now in
+    let vs = values_of h c.args.args.now in
+    called-by _ _ _ _ variant.StringChar vs _ c.in-StringChar.is (record { calls = c.made_text.ensures.calls (library (native_view variant.StringChar) vs) (comes-runs _ h (library (native_view variant.StringChar) vs) _ c.char.ensures); made = c.made_text.ensures.made; extends = c.made_text.ensures.extends; functions = c.made_text.ensures.functions })
+
+pub returns-in-GetMetatable : goal.returns-in-GetMetatable
+returns-in-GetMetatable c =
+    let h = c.args.heap.now in
+    let vs = values_of h c.args.args.now in
+    called-by _ _ _ _ variant.GetMetatable vs _ c.in-GetMetatable.is (record { calls = c.one.ensures.calls h c.getmetatable.new.heap (library (native_view variant.GetMetatable) vs) c.getmetatable.ensures.runs; made = c.one.ensures.made c.getmetatable.new.heap c.getmetatable.ensures.made; extends = c.getmetatable.ensures.extends; functions = c.getmetatable.ensures.functions })
+
+pub returns-in-SetMetatable : goal.returns-in-SetMetatable
+returns-in-SetMetatable c =
+    let h = c.args.heap.now in
+    let vs = values_of h c.args.args.now in
+    called-by _ _ _ _ variant.SetMetatable vs _ c.in-SetMetatable.is (record { calls = c.table-in-SetMetatable.ensures.calls h c.setmetatable.new.heap (library (native_view variant.SetMetatable) vs) c.setmetatable.ensures.runs; made = c.table-in-SetMetatable.ensures.made c.setmetatable.new.heap c.setmetatable.ensures.made; extends = c.setmetatable.ensures.extends; functions = c.setmetatable.ensures.functions })
+
+pub returns-in-StringFormat : goal.returns-in-StringFormat
+returns-in-StringFormat c =
+    let h = c.args.heap.now in
+    let vs = values_of h c.args.args.now in
+    called-by _ _ _ _ variant.StringFormat vs _ c.in-StringFormat.is (record { calls = c.made_text-in-StringFormat.ensures.calls (library (native_view variant.StringFormat) vs) (comes-runs _ h (library (native_view variant.StringFormat) vs) _ c.format.ensures); made = c.made_text-in-StringFormat.ensures.made; extends = c.made_text-in-StringFormat.ensures.extends; functions = c.made_text-in-StringFormat.ensures.functions })
+
+pub returns-in-TableConcat : goal.returns-in-TableConcat
+returns-in-TableConcat c =
+    let h = c.args.heap.now in
+    let vs = values_of h c.args.args.now in
+    called-by _ _ _ _ variant.TableConcat vs _ c.in-TableConcat.is (record { calls = c.made_text-in-TableConcat.ensures.calls (library (native_view variant.TableConcat) vs) c.concat.ensures; made = c.made_text-in-TableConcat.ensures.made; extends = c.made_text-in-TableConcat.ensures.extends; functions = c.made_text-in-TableConcat.ensures.functions })
+
+pub returns-in-TableInsert : goal.returns-in-TableInsert
+returns-in-TableInsert c =
+    let h = c.args.heap.now in
+    let vs = values_of h c.args.args.now in
+    called-by _ _ _ _ variant.TableInsert vs _ c.in-TableInsert.is (record { calls = c.nothing.ensures.calls h c.insert.new.heap (library (native_view variant.TableInsert) vs) c.insert.ensures.runs; made = c.nothing.ensures.made c.insert.new.heap; extends = c.insert.ensures.extends; functions = c.insert.ensures.functions })
+
+pub returns-in-TableRemove : goal.returns-in-TableRemove
+returns-in-TableRemove c =
+    let h = c.args.heap.now in
+    let vs = values_of h c.args.args.now in
+    called-by _ _ _ _ variant.TableRemove vs _ c.in-TableRemove.is (record { calls = c.one_or_none.ensures.calls h c.remove.new.heap (library (native_view variant.TableRemove) vs) c.remove.ensures.runs; made = c.one_or_none.ensures.made c.remove.new.heap c.remove.ensures.made; extends = c.remove.ensures.extends; functions = c.remove.ensures.functions })
+
+pub returns-in-LoveDataNewDataView : goal.returns-in-LoveDataNewDataView
+returns-in-LoveDataNewDataView c =
+    let h = c.args.heap.now in
+    let vs = values_of h c.args.args.now in
+    called-by _ _ _ _ variant.LoveDataNewDataView vs _ c.in-LoveDataNewDataView.is (record { calls = c.datum-in-LoveDataNewDataView.ensures.calls h c.new_data_view.new.heap (library (native_view variant.LoveDataNewDataView) vs) c.new_data_view.ensures.runs; made = c.datum-in-LoveDataNewDataView.ensures.made c.new_data_view.new.heap c.new_data_view.ensures.made; extends = c.new_data_view.ensures.extends; functions = c.new_data_view.ensures.functions })
+
+pub returns-in-LoveDataNewByteData : goal.returns-in-LoveDataNewByteData
+returns-in-LoveDataNewByteData c =
+    let h = c.args.heap.now in
+    let vs = values_of h c.args.args.now in
+    called-by _ _ _ _ variant.LoveDataNewByteData vs _ c.in-LoveDataNewByteData.is (record { calls = c.datum.ensures.calls h c.new_byte_data.new.heap (library (native_view variant.LoveDataNewByteData) vs) c.new_byte_data.ensures.runs; made = c.datum.ensures.made c.new_byte_data.new.heap c.new_byte_data.ensures.made; extends = c.new_byte_data.ensures.extends; functions = c.new_byte_data.ensures.functions })
+
+pub returns-in-DataGetFilename : goal.returns-in-DataGetFilename
+returns-in-DataGetFilename c =
+    let h = c.args.heap.now in
+    let vs = values_of h c.args.args.now in
+    called-by _ _ _ _ variant.DataGetFilename vs _ c.in-DataGetFilename.is (record { calls = c.made_text-in-DataGetFilename.ensures.calls (library (native_view variant.DataGetFilename) vs) c.get_filename.ensures; made = c.made_text-in-DataGetFilename.ensures.made; extends = c.made_text-in-DataGetFilename.ensures.extends; functions = c.made_text-in-DataGetFilename.ensures.functions })

@@ -1,4 +1,4 @@
-use Rattle.std.proofs.Common.{◌≡◌, ◌<◌, ◌≤◌, length, get_or, rules, arith}
+use Rattle.std.proofs.Common.{rules}
 use Rattle.lua_lib.proofs.Reading.{argument-there, argument-absent, argument-made}
 use Rattle.lua_lib.proofs.call.arguments.argument.Goals as goal
 

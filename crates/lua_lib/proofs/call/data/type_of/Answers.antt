@@ -1,4 +1,4 @@
-use Rattle.std.proofs.Common.{List, [], ◌∷◌, Bool, ap, sym, refl, ◌∙◌}
+use Rattle.std.proofs.Common.{List, [], ◌∷◌, Bool, ap, sym, ◌∙◌}
 use Rattle.std.proofs.lemmas.Result.{err_from_is_err_and}
 use Rattle.lua_meaning.specs.Value.{Value, flag}
 use Rattle.lua_meaning.specs.Arguments.{Lib, answers, answer_one, argument, text_argument, ◌>>=◌}

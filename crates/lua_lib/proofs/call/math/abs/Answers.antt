@@ -1,5 +1,5 @@
 use Rattle.std.proofs.lemmas.Result.{err_from_is_err_and}
-use Rattle.lua_lib.proofs.Binding.{gives-then, raises-first, raises-then}
+use Rattle.lua_lib.proofs.Binding.{gives-then, raises-first}
 use Rattle.lua_lib.proofs.call.math.abs.Goals as goal
 
 pub returns-in_err-x : goal.returns-in_err-x

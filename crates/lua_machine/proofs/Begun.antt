@@ -1,0 +1,177 @@
+-- A function of Lua that began is where the definitions' machine begins it.
+use Rattle.std.proofs.Common.{◌≡◌, ℕ, ◌+◌, ◌-◌, ◌<◌, ◌≤◌, List, [], ◌∷◌, ◌++◌, length, take, drop, Bool, refl, sym, ap, ◌∙◌, subst, Option, Some, None, slice_get, arith}
+use Rattle.std.specs.Prelude.{map, reverse}
+use Rattle.std.proofs.lemmas.List.{take_all, take-append-le, reverse-append}
+use Rattle.lua_tree.specs.Tree.{Bytes}
+use Rattle.lua_meaning.specs.Value as meant
+use Rattle.lua_meaning.specs.Message.{Ask}
+use Rattle.lua_meaning.specs.Fault.{Place}
+use Rattle.lua_heap.specs.declared.entries.Function.{Function}
+use Rattle.lua_heap.specs.declared.value.Value.{Value}
+use Rattle.lua_heap.specs.Value.{value_view}
+use Rattle.lua_heap.specs.Heap.{function_at}
+use Rattle.lua_code.specs.Instr as i
+use Rattle.lua_code.specs.declared.instr.Site.{Site}
+use Rattle.lua_code.specs.View.{ProtoView}
+use Rattle.lua_code.specs.Valid.{IsSound, cells_of, cells_at}
+use Rattle.lua_code.specs.State as s
+use Rattle.lua_code.specs.State.{put_values, Config, waits, lua}
+use Rattle.lua_code.specs.Frames.{extra_of, begun}
+use Rattle.lua_code.specs.Act.{next, at_line}
+use Rattle.lua_machine.specs.declared.arguments.Behind.{Behind}
+use Rattle.lua_machine.specs.declared.frame.Wants.{Wants}
+use Rattle.lua_machine.specs.declared.frame.Frame.{Frame}
+use Rattle.lua_machine.specs.View.{EngineView, cell_at, slots_view, protos_at, proto_at, no_proto, code_of, wants_view, line_at, line_of, place_of, running, frames_below, frames_of, registers_of, run_of, state_of, config_of}
+use Rattle.lua_machine.specs.Made.{AreBelow, IsEngine}
+use Rattle.lua_machine.specs.Frames.{waiting}
+use Rattle.lua_machine.specs.Ready.{IsPlaced, IsWaiting, IsReady}
+use Rattle.lua_machine.specs.Does.{site_or, site_at}
+use Rattle.lua_machine.specs.Arguments.{args_at}
+use Rattle.lua_machine.specs.Callees.{callee_at}
+use Rattle.lua_machine.specs.Entering.{HasFunction, proto_for, CanCall, free_cells, entered, HasEntered}
+use Rattle.lua_machine.specs.Calling.{calling_frames}
+use Rattle.lua_machine.proofs.Keeping.{get_in, weaker, waiting_more, sound_at}
+use Rattle.lua_machine.proofs.Fetching.{code_is}
+use Rattle.lua_machine.proofs.Loads.{all_last}
+
+-- ---- lists
+
+drop_front : {A : Type 0} (xs ys : List A) → drop (length xs) (xs ++ ys) ≡ ys
+drop_front [] ys = refl
+drop_front (x ∷ xs) ys = drop_front xs ys
+
+all_taken : {A : Type 0} (xs : List A) → take (length xs) xs ≡ xs
+all_taken xs = take_all (length xs) xs (omega arith)
+
+-- ---- sites
+
+site_line : (o : Option Site) → line_at o ≡ (site_or o).line
+site_line None = refl
+site_line (Some s) = refl
+
+pub site_cells : (o : Option Site) → cells_of o ≡ (site_or o).cells
+site_cells None = refl
+site_cells (Some s) = refl
+
+-- the place of the call that is made
+pub waiting_place : (m : EngineView) (wants : Wants) → m.proto ≡ proto_at m.chunks m.chunk m.func → Some (place_of m.chunks (waiting m wants)) ≡ at_line (run_of m) (site_at m.proto m.pc)
+waiting_place m wants proto =
+    ap (λ (p : ProtoView). at (line_of p (m.pc + 1))) (sym proto)
+    ∙ ap (λ n. at (line_at (slice_get m.proto.sites n))) (let e : m.pc + 1 - 1 ≡ m.pc = omega arith in e)
+    ∙ ap at (site_line (slice_get m.proto.sites m.pc))
+  where
+    at : ℕ → Option Place
+    at line = Some (record { file = i.file_of (code_of m.chunks m.chunk m.func); line = line })
+
+-- ---- frames over more extra arguments
+
+-- with the code and the extra arguments of one engine behind others
+abbrev more_extra : EngineView → List Value → EngineView
+more_extra m extra = record m { extras = m.extras ++ extra }
+
+pub same_below : (texts : List Bytes) (m : EngineView) (extra : List Value) (top : ℕ) (fs : List Frame) → top ≤ length m.extras → AreBelow top fs → frames_below texts (more_extra m extra) top fs ≡ frames_below texts m top fs
+same_below texts m extra top [] le below = refl
+same_below texts m extra top (f ∷ fs) le below =
+    ap (λ (xs : List Value). waits (record (running texts m f.chunk f.func f.pc f.base f.cell_base f.extra_base top) { extra = map (value_view texts) (drop f.extra_base xs) }) (wants_view f.wants) (Some (place_of m.chunks f)) ∷ frames_below texts (more_extra m extra) f.extra_base fs) (take-append-le top m.extras extra le)
+    ∙ ap (λ (rest : List s.Frame). waits (running texts m f.chunk f.func f.pc f.base f.cell_base f.extra_base top) (wants_view f.wants) (Some (place_of m.chunks f)) ∷ rest) (same_below texts m extra f.extra_base fs (let b = below.0 in omega (arith, le, b)) below.1)
+
+-- the frames of the call
+pub called_frames : (m : EngineView) (wants : Wants) (extra : List Value) → IsEngine m → m.proto ≡ proto_at m.chunks m.chunk m.func → frames_below m.heap.texts (more_extra m extra) (length m.extras) (reverse (m.frames ++ waiting m wants ∷ [])) ≡ calling_frames wants m
+called_frames m wants extra is proto =
+    ap (frames_below m.heap.texts (more_extra m extra) (length m.extras)) (reverse-append m.frames (waiting m wants ∷ []))
+    ∙ same_below m.heap.texts m extra (length m.extras) (waiting m wants ∷ reverse m.frames) (omega arith) (is.extra, is.below)
+    ∙ ap (λ (o : Option Place). waits (next (run_of m)) (wants_view wants) o ∷ frames_of m) (waiting_place m wants proto)
+
+-- ---- the function that began
+
+module _ (m : EngineView) (wants : Wants) (id first count : ℕ) (behind : Behind) (r : CanCall wants first count m) (f : HasFunction m id) where
+  abbrev fun : Function
+  fun = function_at m.heap id
+
+  abbrev p : ProtoView
+  p = proto_for m id
+
+  abbrev code : i.Proto
+  code = code_of m.chunks fun.code fun.proto
+
+  sound : IsSound (protos_at m.chunks fun.code) fun.proto p
+  sound = sound_at m fun.code fun.proto r.ready.fit f.code.func
+
+  here : slice_get (protos_at m.chunks fun.code) fun.proto ≡ Some p
+  here = get_in (protos_at m.chunks fun.code) fun.proto no_proto f.code.func
+
+  params_are : p.params ≡ i.params_of code
+  params_are = ap i.params_of (sym (code_is (protos_at m.chunks fun.code) fun.proto p here))
+
+  varargs_are : p.varargs ≡ i.is_vararg code
+  varargs_are = ap i.is_vararg (sym (code_is (protos_at m.chunks fun.code) fun.proto p here))
+
+  -- slots for its parameters
+  pub params_fit : p.params ≤ p.size
+  params_fit = sound.held.params
+
+  pub cells_there : free_cells m ≤ length m.cells
+  cells_there = subst (λ (q : ProtoView). m.cell_base + cells_at q m.pc ≤ length m.cells) (sym r.ready.proto) r.ready.placed.height
+
+  abbrev begins : List Ask → List s.Frame → (ℕ → meant.Value) → (ℕ → ℕ) → List meant.Value → Config
+  begins asks frames slots cells extra =
+      record {
+        active = lua (record { code = code; pc = 0; base = first; cell_base = free_cells m; extra = extra });
+        frames = frames;
+        registers = record { slots = slots; cells = cells; tail = map (value_view m.heap.texts) m.tail };
+        state = state_of asks m;
+      }
+
+  module _ (is : IsEngine m) (new : EngineView) (e : HasEntered wants id first count behind m new) where
+    abbrev x : EngineView
+    x = entered wants id first e.values e.cells e.extra m
+
+    own_extra : map (value_view m.heap.texts) (drop (length m.extras) (take (length (m.extras ++ e.extra)) (m.extras ++ e.extra))) ≡ extra_of (i.is_vararg code) (i.params_of code) (args_at m first count behind)
+    own_extra =
+        ap (λ (xs : List Value). map (value_view m.heap.texts) (drop (length m.extras) xs)) (all_taken (m.extras ++ e.extra))
+        ∙ ap (map (value_view m.heap.texts)) (drop_front m.extras e.extra)
+        ∙ e.extra_is
+        ∙ ap (λ (b : Bool). extra_of b p.params (args_at m first count behind)) varargs_are
+        ∙ ap (λ (n : ℕ). extra_of (i.is_vararg code) n (args_at m first count behind)) params_are
+
+    slots_begin : slots_view m.heap.texts e.values ≡ put_values (slots_view m.heap.texts m.values) first (i.params_of code) (args_at m first count behind)
+    slots_begin = e.slots_are ∙ ap (λ n. put_values (slots_view m.heap.texts m.values) first n (args_at m first count behind)) params_are
+
+    pub entered_config : (asks : List Ask) → config_of asks new ≡ begun (callee_at m id) (args_at m first count behind) (calling_frames wants m) first (free_cells m) (registers_of m) (state_of asks m)
+    entered_config asks =
+        ap (λ (y : EngineView). config_of asks y) e.is
+        ∙ ap (λ (vs : List meant.Value). begins asks (frames_of x) (slots_view m.heap.texts e.values) (cell_at e.cells) vs) own_extra
+        ∙ ap (λ (fs : List s.Frame). begins asks fs (slots_view m.heap.texts e.values) (cell_at e.cells) extra_then) (called_frames m wants e.extra is r.ready.proto)
+        ∙ ap (λ (slots : ℕ → meant.Value). begins asks (calling_frames wants m) slots (cell_at e.cells) extra_then) slots_begin
+        ∙ ap (λ (cells : ℕ → ℕ). begins asks (calling_frames wants m) (put_values (slots_view m.heap.texts m.values) first (i.params_of code) (args_at m first count behind)) cells extra_then) e.cells_are
+      where
+        extra_then : List meant.Value
+        extra_then = extra_of (i.is_vararg code) (i.params_of code) (args_at m first count behind)
+
+    -- the function that waits
+    waits_there : IsWaiting m.chunks (length e.values) (length e.cells) (waiting m wants)
+    waits_there =
+        let inside = subst (λ (q : ProtoView). m.pc + 1 < length q.instrs) r.ready.proto r.leads.inside in
+        let height = subst (λ (q : ProtoView). cells_at q (m.pc + 1) ≤ cells_at q m.pc) r.ready.proto r.leads.height in
+        let there = r.ready.placed.height in
+        let placed : IsPlaced m.chunks (length m.values) (length m.cells) m.chunk m.func (m.pc + 1) m.base m.cell_base = record { known = r.ready.placed.known; inside = inside; room = r.ready.placed.room; height = omega (arith, there, height) } in
+        waiting_more m.chunks (length m.values) (length e.values) (length m.cells) (length e.cells) e.longer e.taller (waiting m wants) (record { placed = placed; wants = r.fits })
+
+    pub entered_ready : IsReady new
+    entered_ready =
+        let begin = sound.begins.height in
+        let high = e.height in
+        let cells = f.code.cells in
+        subst IsReady (sym e.is)
+        (record {
+          placed = record { known = f.code.func; inside = sound.begins.inside; room = e.room; height = omega (arith, begin, high, cells) };
+          proto = refl;
+          fit = record {
+            frames = all_last (IsWaiting m.chunks (length e.values) (length e.cells)) m.frames (waiting m wants)
+                (weaker (IsWaiting m.chunks (length m.values) (length m.cells)) (IsWaiting m.chunks (length e.values) (length e.cells)) m.frames
+                (waiting_more m.chunks (length m.values) (length e.values) (length m.cells) (length e.cells) e.longer e.taller) r.ready.fit.frames)
+                waits_there;
+            functions = r.ready.fit.functions;
+            chunks = r.ready.fit.chunks;
+          };
+        })

@@ -1,0 +1,32 @@
+-- What a call of a value runs.
+use Rattle.std.specs.Prelude.{ℕ, List, [], map, Option, Some, None, ⊤}
+use Rattle.lua_meaning.specs.Value as meant
+use Rattle.lua_heap.specs.declared.value.Value.{Value}
+use Rattle.lua_heap.specs.Value.{value_view}
+use Rattle.lua_heap.specs.Heap.{store_of, function_at}
+use Rattle.lua_code.specs.Frames.{Callee, runs, built_in, called}
+use Rattle.lua_machine.specs.View.{EngineView, code_of, made_view}
+
+-- a function of a program
+abbrev pub callee_at : EngineView → (id : ℕ) → Callee
+callee_at m id =
+    runs (code_of m.chunks (function_at m.heap id).code (function_at m.heap id).proto)
+    (function_at m.heap id).cells
+
+-- what a value's call runs, and on what
+abbrev pub called_at : EngineView → Value → List meant.Value → Option (Callee × List meant.Value)
+called_at m v args =
+    called (map (made_view m.chunks) m.heap.functions) (store_of m.heap)
+    (value_view m.heap.texts v) args
+
+abbrev pub IsBuiltIn : Callee → Type 0
+IsBuiltIn (runs code cells) = ⊥
+IsBuiltIn (built_in f) = ⊤
+
+abbrev pub RunsLibrary : Option (Callee × List meant.Value) → Type 0
+RunsLibrary None = ⊥
+RunsLibrary (Some c) = IsBuiltIn c.0
+
+-- a call of a value runs a function of the library
+abbrev pub CallsLibrary : EngineView → Value → Type 0
+CallsLibrary m v = RunsLibrary (called_at m v [])
