@@ -1,5 +1,5 @@
 -- What calls come to.
-use Rattle.std.proofs.Common.{◌≡◌, ℕ, suc, ◌+◌, ◌-◌, ◌<◌, ◌≤◌, List, [], ◌∷◌, ◌++◌, length, Bool, true, false, refl, sym, ap, ◌∙◌, Option, Some, None, arith}
+use Rattle.std.proofs.Common.{◌≡◌, ℕ, suc, ◌-◌, ◌<◌, ◌≤◌, List, [], ◌∷◌, ◌++◌, length, Bool, true, false, refl, sym, ap, ◌∙◌, Option, Some, None, arith}
 use Rattle.std.specs.Prelude.{map, reverse, nat_lt, if◌then◌else◌, codes, Result, Ok, Err, IfOk}
 use Rattle.std.proofs.lemmas.Bool.{lt-ltb, le-ltb}
 use Rattle.std.proofs.lemmas.List.{length-append, reverse-append}
@@ -9,7 +9,6 @@ use Rattle.lua_meaning.specs.Message.{Ask}
 use Rattle.lua_meaning.specs.Fault.{placed, call_text}
 use Rattle.lua_heap.specs.declared.value.Value.{Value}
 use Rattle.lua_heap.specs.Value.{value_view}
-use Rattle.lua_code.specs.State as s
 use Rattle.lua_code.specs.State.{Config, Step, on}
 use Rattle.lua_code.specs.Frames.{Callee, has_room, raised, begun, entering_called}
 use Rattle.lua_code.specs.Act.{at_line}
