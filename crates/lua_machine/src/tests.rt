@@ -1,5 +1,3 @@
-mod calls;
-
 use crate::engine::Engine;
 use crate::status::Pause;
 use love_base::{List, Memory, Text};
