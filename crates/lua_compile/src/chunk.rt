@@ -1,9 +1,12 @@
 //! The code of a chunk.
 
-ghost use Rattle.std.specs.Prelude.{◌≡◌, [], None, IfOk, MatchResult};
+ghost use Rattle.std.specs.Prelude.{◌≡◌, List, [], None, IfOk, IsErrOf, MatchResult};
 ghost use Rattle.lua_tree.specs.View.{block_view};
 ghost use Rattle.lua_code.specs.Code.{chunk_code};
 ghost use Rattle.lua_code.specs.Trees.{chunk_of};
+ghost use Rattle.lua_code.specs.Valid.{AreValid};
+ghost use Rattle.lua_code.specs.View.{ProtoView};
+ghost use Rattle.lua_compile.specs.declared.fault.CompileFault.TheVariants.{NotInOrder};
 ghost use Rattle.lua_upvalues.specs.Upvalues.{block_fault};
 ghost use Rattle.lua_compile.specs.Fault.{IsCause};
 
@@ -23,14 +26,17 @@ use std::alloc::Global;
 /// # Errors
 ///
 /// [`CompileFault::TooManyUpvalues`] exactly where a function uses over 255 locals of the functions
-/// around it, unless memory runs out first; [`CompileFault::Memory`] where there is no room for the
-/// code.
+/// around it, unless memory runs out first; [`CompileFault::NotInOrder`] only where [`Code::check`]
+/// refuses functions that stand for that code, which isn't known to happen; [`CompileFault::Memory`]
+/// where there is no room for the code.
 pub fn compile(alloc: Global, chunk: &Chunk, name: &Text) -> Result<Code, CompileFault>
     ensures code { IfOk result (λ code.
         chunk_of code ≡ chunk_code name.now (block_view chunk.now.block)) }
     ensures fault { MatchResult result
         (λ code. block_fault (block_view chunk.now.block) [] ≡ None)
         (λ fault. IsCause (block_fault (block_view chunk.now.block) []) fault) }
+    ensures not_in_order { IsErrOf result NotInOrder → (protos : List ProtoView)
+        × (chunk_of protos ≡ chunk_code name.now (block_view chunk.now.block)) × ¬ AreValid protos }
 {
     check_upvalues(alloc, &chunk.block)?;
     match Code::check(protos(alloc, chunk, name)?) {
