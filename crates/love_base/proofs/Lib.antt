@@ -2,3 +2,4 @@ pub mod Content
 pub mod Distinct
 mod Parts
 pub mod Prefixes
+mod Readings

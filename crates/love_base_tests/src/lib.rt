@@ -15,6 +15,8 @@ mod memory_sinks;
 #[cfg(test)]
 mod outputs;
 #[cfg(test)]
+mod pacers;
+#[cfg(test)]
 mod real_files;
 #[cfg(test)]
 mod texts;

@@ -25,3 +25,5 @@ pub mod Moved
 pub mod Joined
 pub mod Parts
 pub mod Texts
+pub mod Walked
+pub mod Arranged

@@ -1,11 +1,11 @@
 -- Metatables and their field `__metatable`, as the definitions read them.
-use Rattle.std.proofs.Common.{◌≡◌, ◌≢◌, ℕ, ◌<◌, ◌≤◌, List, Option, None, Some, arith, ap, refl, sym, ◌∙◌}
+use Rattle.std.proofs.Common.{◌≡◌, ◌≢◌, ℕ, List, Option, None, Some, arith, ap, refl, sym, ◌∙◌}
 use Rattle.std.specs.Prelude.{codes}
 use Rattle.lua_tree.specs.Tree.{Bytes}
 use Rattle.lua_meaning.specs.Value as meant
 use Rattle.lua_meaning.specs.Store.{Store, handler, metatable, set_meta}
 use Rattle.lua_meaning.specs.Fault.{says, improper}
-use Rattle.lua_meaning.specs.Arguments.{Lib, answers, faults, answer_one, change, ◌>>◌}
+use Rattle.lua_meaning.specs.Arguments.{Lib, faults, answer_one, change, ◌>>◌}
 use Rattle.lua_meaning.specs.Basic as meaning
 use Rattle.lua_heap.specs.declared.value.Value.{Value}
 use Rattle.lua_heap.specs.declared.value.Value.TheVariants.{Nil, Bool as Flag, Num, Str, Table as TableValue, Func, Native, Channel, Thread, Data}

@@ -1,12 +1,12 @@
 -- Items of a table that move, as the definitions read and set them.
-use Rattle.std.proofs.Common.{◌≡◌, ◌≢◌, ℕ, zero, suc, ◌+◌, ◌-◌, ◌<◌, ◌≤◌, ℤ, pos, ◌+ℤ◌, ◌≤ℤ◌, List, [], ◌∷◌, ◌++◌, length, drop, map, Option, arith, ap, refl, sym, ◌∙◌}
+use Rattle.std.proofs.Common.{◌≡◌, ℕ, zero, suc, ◌+◌, ◌-◌, ◌<◌, ◌≤◌, ℤ, pos, ◌+ℤ◌, ◌≤ℤ◌, List, [], ◌∷◌, length, drop, Option, arith, ap, refl, sym, ◌∙◌}
 use Rattle.std.specs.Prelude.{unwrap_or, nat_le, negsuc, codes}
 use Rattle.std.proofs.lemmas.Bool.{cond-true, cond-false, le-leb, lt-leb}
 use Rattle.std.proofs.lemmas.Int.{ints}
 use Rattle.lua_meaning.specs.Value.{Value, nil, num}
 use Rattle.lua_meaning.specs.Store.{Store, raw_get, raw_set, border, position_key}
 use Rattle.lua_meaning.specs.Fault.{improper}
-use Rattle.lua_meaning.specs.Arguments.{Lib, argument, answer, number_argument, look, change, answer_one, fault, ◌>>=◌, ◌>>◌}
+use Rattle.lua_meaning.specs.Arguments.{argument, answer, number_argument, look, change, answer_one, fault, ◌>>=◌, ◌>>◌}
 use Rattle.lua_meaning.specs.Basic.{items_from}
 use Rattle.lua_meaning.specs.Tables.{set_items, inserted, items, insert_by, insert_at, removed, remove_at}
 

@@ -1,10 +1,8 @@
 -- What a sort of numbers and of texts makes is what `sorted` gives.
-use Rattle.std.proofs.Common.{◌≡◌, ◌≢◌, ℕ, suc, ◌<◌, ◌⊎◌, inl, inr, ℤ, pos, negsuc, Bool, true, false, not, cond, nat_eq, nat_lt, List, [], ◌∷◌, length, get_or, map, Bor, arith, ap, refl, sym, ◌∙◌, add-one}
+use Rattle.std.proofs.Common.{◌≡◌, ◌≢◌, ℕ, suc, ◌<◌, ◌⊎◌, inl, inr, ℤ, pos, negsuc, Bool, true, false, not, cond, nat_eq, nat_lt, List, [], ◌∷◌, get_or, map, arith, ap, refl, sym, ◌∙◌, add-one}
 use Rattle.std.proofs.lemmas.Bool.{eqb-true, eqb-false, eq-eqb, ne_eqb, lt-ltb, ltb-true, ltb-false, leb-true, leb-false, le-leb, cond-true, cond-false, not-false}
 use Rattle.std.proofs.lemmas.Bool.Decides.{nat_tests}
 use Rattle.std.proofs.lemmas.Cmp.{same_from_slice_cmp}
-use Rattle.std.proofs.lemmas.List.{get_or-map, length-map}
-use Rattle.std.proofs.lemmas.List.Sorted.{IsPermutation-map}
 use Rattle.std.specs.Cmp.Lexicographic.{slice_cmp}
 use Rattle.std.specs.List.Sorted.{IsPermutation, IsSorted}
 use Rattle.std.specs.Ordering.{nat_cmp, int_cmp, is_lt}
@@ -162,34 +160,12 @@ text_lt xs ys =
     same_from_slice_cmp nat_cmp is_lt (λ a b. not (is_text_up_to b a)) refl (λ _ _. refl) (λ _ _. refl)
     (λ x y a b o h. grind (arith, nat_tests)) xs ys (slice_cmp nat_cmp xs ys) refl
 
-map-map : (ts : List (Bor (List ℕ))) → map (λ t. str t.now) ts ≡ map str (map (λ (t : Bor (List ℕ)). t.now) ts)
-map-map [] = refl
-map-map (t ∷ ts) = ap (λ (l : List Value). str t.now ∷ l) (map-map ts)
-
 text_step : (a b : List ℕ) → is_lt (slice_cmp nat_cmp b a) ≡ false → is_text_up_to a b ≡ true
 text_step a b e = not-false (is_text_up_to a b) (sym (text_lt b a) ∙ e)
 
-abbrev bytes_of : Bor (List ℕ) → List ℕ
-bytes_of t = t.now
-
-neighbours : (ys : List (Bor (List ℕ))) → IsSorted (λ (a b : Bor (List ℕ)). slice_cmp nat_cmp a.now b.now) ys →
-    (k : ℕ) (d : List ℕ) → suc k < length (map bytes_of ys) →
-    is_text_up_to (get_or (map bytes_of ys) k d) (get_or (map bytes_of ys) (suc k) d) ≡ true
-neighbours [] up k d l = absurd (omega arith)
-neighbours (y ∷ ys) up k d l =
-    let all : List (Bor (List ℕ)) = y ∷ ys in
-    let within : suc k < length all = omega (arith, length-map all bytes_of) in
-    let first : get_or (map bytes_of all) k d ≡ bytes_of (get_or all k y) = get_or-map bytes_of all k y d (omega arith) in
-    let second : get_or (map bytes_of all) (suc k) d ≡ bytes_of (get_or all (suc k) y) = get_or-map bytes_of all (suc k) y d within in
-    ap (λ (a : List ℕ). is_text_up_to a (get_or (map bytes_of all) (suc k) d)) first
-    ∙ (ap (λ (b : List ℕ). is_text_up_to (bytes_of (get_or all k y)) b) second
-    ∙ text_step (bytes_of (get_or all k y)) (bytes_of (get_or all (suc k) y)) (rw add-one at (up k y (omega arith) (omega arith))))
-
-pub texts-sorted : (xs ys : List (Bor (List ℕ))) → IsPermutation xs ys →
-    IsSorted (λ (a b : Bor (List ℕ)). slice_cmp nat_cmp a.now b.now) ys →
-    map (λ t. str t.now) ys ≡ sorted (map (λ t. str t.now) xs)
+pub texts-sorted : (xs ys : List (List ℕ)) → IsPermutation xs ys → IsSorted (slice_cmp nat_cmp) ys → map str ys ≡ sorted (map str xs)
 texts-sorted xs ys p up =
-    map-map ys ∙ (ap (map str) (is_in_order is_text_up_to text_total text_trans text_antisym (map bytes_of xs) (map bytes_of ys)
-    (IsPermutation-map bytes_of xs ys p)
-    (ascends_from is_text_up_to text_total text_trans text_antisym (map bytes_of ys) (neighbours ys up)))
-    ∙ (sym (sorted_texts (map bytes_of xs)) ∙ ap sorted (sym (map-map xs))))
+    ap (map str) (is_in_order is_text_up_to text_total text_trans text_antisym xs ys p
+    (ascends_from is_text_up_to text_total text_trans text_antisym ys
+    (λ k d l. text_step (get_or ys k d) (get_or ys (suc k) d) (rw add-one at (up k d (omega arith) (omega arith))))))
+    ∙ sym (sorted_texts xs)

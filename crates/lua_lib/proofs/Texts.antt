@@ -12,7 +12,7 @@ use Rattle.lua_heap.specs.declared.value.Value.{Value}
 use Rattle.lua_heap.specs.declared.value.Value.TheVariants.{Nil, Bool as Flag, Num, Str, Table as TableValue, Func, Native as NativeValue, Channel, Thread, Data}
 use Rattle.lua_heap.specs.Value.{value_view}
 use Rattle.lua_lib.specs.declared.fault.Fault.{Fault}
-use Rattle.lua_lib.specs.declared.fault.Fault.TheVariants.{IndexOutOfRange, BaseOutOfRange, NoByte, Negative, NotWhole, OutOfRange, StringTooLong, TooManyValues, PatternsNotAvailable, InvalidFormat, NoSuchKey, KeyIsNil, AssertionFailed, NoMetatable, Protected, PositionOutOfBounds, OutOfBounds, Memory}
+use Rattle.lua_lib.specs.declared.fault.Fault.TheVariants.{IndexOutOfRange, BaseOutOfRange, NoByte, Negative, NotWhole, OutOfRange, StringTooLong, TooManyValues, PatternsNotAvailable, InvalidFormat, NoSuchKey, KeyIsNil, AssertionFailed, NoMetatable, Protected, PositionOutOfBounds, NoOrder, TakesNoFunction, OutOfBounds, NotSeconds, NoStatus, Memory}
 use Rattle.lua_lib.specs.declared.call.cause.Cause.{Cause}
 use Rattle.lua_lib.specs.declared.call.cause.Cause.TheVariants.{Wants, By, NoText, Raises}
 use Rattle.lua_lib.specs.Faults.{fault_error}
@@ -86,7 +86,11 @@ fault-value f at texts AssertionFailed e is = ap (fault_value f (Some at)) (sym 
 fault-value f at texts NoMetatable e is = ap (fault_value f (Some at)) (sym (same_Some _ e is))
 fault-value f at texts Protected e is = ap (fault_value f (Some at)) (sym (same_Some _ e is))
 fault-value f at texts PositionOutOfBounds e is = ap (fault_value f (Some at)) (sym (same_Some _ e is))
+fault-value f at texts NoOrder e is = ap (fault_value f (Some at)) (sym (same_Some _ e is))
+fault-value f at texts TakesNoFunction e is = ap (fault_value f (Some at)) (sym (same_Some _ e is))
 fault-value f at texts (OutOfBounds n) e is = ap (fault_value f (Some at)) (sym (same_Some _ e is))
+fault-value f at texts (NotSeconds n) e is = ap (fault_value f (Some at)) (sym (same_Some _ e is))
+fault-value f at texts (NoStatus n) e is = ap (fault_value f (Some at)) (sym (same_Some _ e is))
 fault-value f at texts Memory e is = absurd (none-some e is)
 
 -- the value of an error is that of its cause

@@ -1,5 +1,5 @@
 -- Which error each cause is, and what a function comes to, by the definitions of the library.
-use Rattle.std.specs.Prelude.{◌≡◌, ℕ, ℤ, pos, List, [], ◌∷◌, map, Option, None, Some, Result, Ok, Err, codes, ⊤}
+use Rattle.std.specs.Prelude.{ℤ, List, [], ◌∷◌, map, Option, None, Some, Result, Ok, Err, codes}
 use Rattle.std.specs.List.{AllByRecursion}
 use Rattle.lua_tree.specs.Tree.{Bytes}
 use Rattle.lua_meaning.specs.Value as meant
@@ -12,7 +12,7 @@ use Rattle.lua_heap.specs.Heap.{HeapView, IsMade}
 use Rattle.lua_lib.specs.declared.call.cause.Cause.{Cause}
 use Rattle.lua_lib.specs.declared.call.cause.Cause.TheVariants.{Wants, By, NoText, Raises}
 use Rattle.lua_lib.specs.declared.call.cause.Expected.{Expected}
-use Rattle.lua_lib.specs.declared.call.cause.Expected.TheVariants.{Number, Text, Table, Data, FileData, Object}
+use Rattle.lua_lib.specs.declared.call.cause.Expected.TheVariants.{Number, Text, Table, Data, FileData, Object, Channel, Thread, Function}
 use Rattle.lua_lib.specs.Outcome.{Gives}
 use Rattle.lua_lib.specs.Faults.{fault_error, RaisesBy}
 
@@ -33,6 +33,9 @@ expected_text Table = codes "table"
 expected_text Data = codes "Data"
 expected_text FileData = codes "FileData"
 expected_text Object = codes "Object"
+expected_text Channel = codes "Channel"
+expected_text Thread = codes "Thread"
+expected_text Function = codes "function"
 
 -- the error of a cause among the strings of a heap
 abbrev pub error_of : List Bytes → Cause → Option Error

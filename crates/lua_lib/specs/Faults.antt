@@ -4,7 +4,7 @@ use Rattle.lua_meaning.specs.Value.{str}
 use Rattle.lua_meaning.specs.Fault.{Fault as Error, improper, says, raises}
 use Rattle.lua_meaning.specs.Arguments.{Lib}
 use Rattle.lua_lib.specs.declared.fault.Fault.{Fault}
-use Rattle.lua_lib.specs.declared.fault.Fault.TheVariants.{IndexOutOfRange, BaseOutOfRange, NoByte, Negative, NotWhole, OutOfRange, StringTooLong, TooManyValues, PatternsNotAvailable, InvalidFormat, NoSuchKey, KeyIsNil, AssertionFailed, NoMetatable, Protected, PositionOutOfBounds, OutOfBounds, Memory}
+use Rattle.lua_lib.specs.declared.fault.Fault.TheVariants.{IndexOutOfRange, BaseOutOfRange, NoByte, Negative, NotWhole, OutOfRange, StringTooLong, TooManyValues, PatternsNotAvailable, InvalidFormat, NoSuchKey, KeyIsNil, AssertionFailed, NoMetatable, Protected, PositionOutOfBounds, NoOrder, TakesNoFunction, OutOfBounds, NotSeconds, NoStatus, Memory}
 use Rattle.lua_lib.specs.Outcome.{Raises}
 
 -- the error of a fault; want of memory is none that the definitions have
@@ -25,7 +25,11 @@ fault_error AssertionFailed = Some (raises (str (codes "assertion failed!")))
 fault_error NoMetatable = Some (improper 1 (codes "nil or table expected"))
 fault_error Protected = Some (says (codes "cannot change a protected metatable"))
 fault_error PositionOutOfBounds = Some (improper 1 (codes "position out of bounds"))
+fault_error NoOrder = Some (says (codes "'sort' needs all numbers or all strings"))
+fault_error TakesNoFunction = Some (says (codes "'sort' takes no function"))
 fault_error (OutOfBounds argument) = Some (improper argument (codes "out of bounds"))
+fault_error (NotSeconds argument) = Some (improper argument (codes "0 to 1000000 expected"))
+fault_error (NoStatus argument) = Some (improper argument (codes "0 to 63 expected"))
 fault_error Memory = None
 
 -- a function raises an error, where there is one

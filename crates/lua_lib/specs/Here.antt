@@ -9,51 +9,38 @@ use Rattle.lua_lib.specs.declared.call.cause.LibFault.{LibFault}
 use Rattle.lua_lib.specs.declared.call.cause.LibFault.TheVariants.{Elsewhere}
 use Rattle.lua_lib.specs.Runs.{Called}
 
+-- all but those of the machine: the first five call functions of the program, print, or run files, and the others ask
+-- what all states share
 abbrev pub is_here : Native → Bool
-is_here Native.collectgarbage = true
-is_here Native.ipairs = true
-is_here Native.ipairs_walk = true
-is_here Native.next = true
-is_here Native.pairs = true
-is_here Native.rawequal = true
-is_here Native.rawget = true
-is_here Native.rawset = true
-is_here Native.type = true
-is_here Native.string_len = true
-is_here Native.string_lower = true
-is_here Native.string_rep = true
-is_here Native.string_reverse = true
-is_here Native.string_sub = true
-is_here Native.string_upper = true
-is_here Native.math_abs = true
-is_here Native.math_ceil = true
-is_here Native.math_floor = true
-is_here Native.math_fmod = true
-is_here Native.math_max = true
-is_here Native.math_min = true
-is_here Native.math_pow = true
-is_here Native.love_event_pump = true
-is_here Native.data_get_size = true
-is_here Native.data_get_string = true
-is_here Native.object_type = true
-is_here Native.object_type_of = true
-is_here Native.assert = true
-is_here Native.getmetatable = true
-is_here Native.select = true
-is_here Native.setmetatable = true
-is_here Native.tonumber = true
-is_here Native.unpack = true
-is_here Native.string_byte = true
-is_here Native.string_char = true
-is_here Native.string_find = true
-is_here Native.string_format = true
-is_here Native.table_concat = true
-is_here Native.table_insert = true
-is_here Native.table_remove = true
-is_here Native.love_data_new_byte_data = true
-is_here Native.love_data_new_data_view = true
-is_here Native.data_get_filename = true
-is_here f = false
+is_here Native.error = false
+is_here Native.pcall = false
+is_here Native.print = false
+is_here Native.require = false
+is_here Native.tostring = false
+is_here Native.love_thread_get_channel = false
+is_here Native.love_thread_new_channel = false
+is_here Native.love_thread_new_thread = false
+is_here Native.love_filesystem_new_file_data = false
+is_here Native.love_filesystem_read = false
+is_here Native.love_event_clear = false
+is_here Native.love_event_poll = false
+is_here Native.love_event_push = false
+is_here Native.love_event_quit = false
+is_here Native.poll_walk = false
+is_here Native.channel_clear = false
+is_here Native.channel_demand = false
+is_here Native.channel_get_count = false
+is_here Native.channel_has_read = false
+is_here Native.channel_peek = false
+is_here Native.channel_perform_atomic = false
+is_here Native.channel_pop = false
+is_here Native.channel_push = false
+is_here Native.channel_supply = false
+is_here Native.thread_get_error = false
+is_here Native.thread_is_running = false
+is_here Native.thread_start = false
+is_here Native.thread_wait = false
+is_here f = true
 
 -- a function that is here is called; any other one is refused, and the heap stays as it is
 abbrev pub CalledIf : {R : Type 0} → Bool → (R → List Value) → (before after : HeapView) → Lib (List meant.Value) → Result R LibFault → Type 0

@@ -1,5 +1,5 @@
 -- Texts of a table's values, put one behind the other.
-use Rattle.std.specs.Prelude.{◌≡◌, ◌++◌, ℕ, ℤ, List, Result, Ok, Err}
+use Rattle.std.specs.Prelude.{◌≡◌, ◌++◌, ℕ, ℤ, Result, Ok, Err}
 use Rattle.lua_tree.specs.Tree.{Bytes}
 use Rattle.lua_meaning.specs.Value.{num}
 use Rattle.lua_meaning.specs.Text.{as_text}

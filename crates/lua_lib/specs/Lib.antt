@@ -12,3 +12,5 @@ pub mod Pieces
 pub mod Joined
 pub mod Texts
 pub mod Parts
+pub mod Keys
+pub mod Sorts

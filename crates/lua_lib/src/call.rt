@@ -21,8 +21,10 @@ pub mod fields;
 pub mod formats;
 mod items;
 pub mod joins;
+pub mod keys;
 pub mod math;
 pub mod metatables;
+pub mod sorts;
 pub mod strings;
 pub mod tables;
 mod texts;
@@ -46,7 +48,8 @@ pub use types::type_name;
 /// cells, metatables and Data as they were. Want of memory is a cause that no definition has: all
 /// that the heap had made is still there then, and no more is said of it.
 ///
-/// [`LibFault::Elsewhere`] where the function isn't one of this crate. The heap is then as it was.
+/// [`LibFault::Elsewhere`] where the function is one of the machine: it calls functions of the
+/// program, prints, runs files or asks what all states share. The heap is then as it was.
 pub fn call(
     alloc: Global,
     heap: &mut Heap,
@@ -110,7 +113,9 @@ fn given(
         Native::StringUpper => made_text(alloc, heap, strings::upper(alloc, heap, args)),
         Native::TableConcat => made_text(alloc, heap, joins::concat(alloc, heap, args)),
         Native::TableInsert => nothing(alloc, tables::insert(alloc, heap, args)),
+        Native::TableMaxn => number(alloc, keys::maxn(heap, args)),
         Native::TableRemove => one_or_none(alloc, tables::remove(alloc, heap, args)),
+        Native::TableSort => nothing(alloc, sorts::sort(alloc, heap, args)),
         Native::MathAbs => number(alloc, math::abs(heap, args)),
         Native::MathCeil => number(alloc, math::whole(heap, args)),
         Native::MathFloor => number(alloc, math::whole(heap, args)),
@@ -132,8 +137,6 @@ fn given(
         Native::Error | Native::Pcall | Native::Print | Native::Require | Native::ToString => Err(
             LibFault::Elsewhere,
         ),
-        // These are to come.
-        Native::TableMaxn | Native::TableSort => Err(LibFault::Elsewhere),
         // These ask what all states share.
         Native::LoveThreadGetChannel
         | Native::LoveThreadNewChannel

@@ -43,8 +43,16 @@ pub enum Fault {
     Protected,
     /// A position below 1 at which a table is to get an item.
     PositionOutOfBounds,
+    /// Values to be sorted that are neither all numbers nor all strings.
+    NoOrder,
+    /// `table.sort` with a function.
+    TakesNoFunction,
     /// An argument, counted from 0, that is an offset or a size and doesn't lie within.
     OutOfBounds(usize),
+    /// An argument, counted from 0, that isn't a number of seconds from 0 to 1,000,000.
+    NotSeconds(usize),
+    /// An argument, counted from 0, that isn't an exit status from 0 to 63.
+    NoStatus(usize),
     /// Want of memory.
     Memory,
 }

@@ -11,6 +11,5 @@ pub mod laws;
 pub mod math;
 mod signed;
 pub mod strings;
-pub mod tables;
 
 pub use fault::Fault;

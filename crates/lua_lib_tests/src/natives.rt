@@ -6,14 +6,14 @@ use lua_value::Num;
 use std::alloc::Global;
 use std::test::Fail;
 
-fn num(n: i64) -> Value {
+pub(crate) fn num(n: i64) -> Value {
     match Num::new(n) {
         Some(n) => Value::Num(n),
         None => Value::Nil,
     }
 }
 
-fn text(heap: &mut Heap, bytes: &[u8]) -> Value {
+pub(crate) fn text(heap: &mut Heap, bytes: &[u8]) -> Value {
     match heap.intern(bytes) {
         Ok(id) => Value::Str(id),
         Err(_) => Value::Nil,
@@ -21,7 +21,7 @@ fn text(heap: &mut Heap, bytes: &[u8]) -> Value {
 }
 
 // What a function gives for three arguments that the heap made.
-fn given(
+pub(crate) fn given(
     alloc: Global,
     heap: &mut Heap,
     native: Native,
@@ -37,7 +37,7 @@ fn given(
 }
 
 // Whether a function gives these values for three arguments.
-fn gives(
+pub(crate) fn gives(
     alloc: Global,
     heap: &mut Heap,
     native: Native,

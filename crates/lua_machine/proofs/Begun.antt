@@ -8,6 +8,8 @@ use Rattle.lua_meaning.specs.Message.{Ask}
 use Rattle.lua_meaning.specs.Fault.{Place}
 use Rattle.lua_heap.specs.declared.entries.Function.{Function}
 use Rattle.lua_heap.specs.declared.value.Value.{Value}
+use Rattle.lua_heap.specs.declared.native.Native.{Native}
+use Rattle.lua_heap.specs.Native.{native_view}
 use Rattle.lua_heap.specs.Value.{value_view}
 use Rattle.lua_heap.specs.Heap.{function_at}
 use Rattle.lua_code.specs.Instr as i
@@ -15,24 +17,25 @@ use Rattle.lua_code.specs.declared.instr.Site.{Site}
 use Rattle.lua_code.specs.View.{ProtoView}
 use Rattle.lua_code.specs.Valid.{IsSound, cells_of, cells_at}
 use Rattle.lua_code.specs.State as s
-use Rattle.lua_code.specs.State.{put_values, Config, waits, lua}
-use Rattle.lua_code.specs.Frames.{extra_of, begun}
+use Rattle.lua_code.specs.State.{put_values, Config, waits, lua, library}
+use Rattle.lua_code.specs.Frames.{built_in, extra_of, begun}
 use Rattle.lua_code.specs.Act.{next, at_line}
 use Rattle.lua_machine.specs.declared.arguments.Behind.{Behind}
 use Rattle.lua_machine.specs.declared.frame.Wants.{Wants}
 use Rattle.lua_machine.specs.declared.frame.Frame.{Frame}
-use Rattle.lua_machine.specs.View.{EngineView, cell_at, slots_view, protos_at, proto_at, no_proto, code_of, wants_view, line_at, line_of, place_of, running, frames_below, frames_of, registers_of, run_of, state_of, config_of}
+use Rattle.lua_machine.specs.View.{EngineView, cell_at, slots_view, protos_at, proto_at, no_proto, code_of, wants_view, line_at, line_of, place_of, running, frames_below, frames_of, registers_of, run_of, state_of, config_of, serving_config}
 use Rattle.lua_machine.specs.Made.{AreBelow, IsEngine}
 use Rattle.lua_machine.specs.Frames.{waiting}
-use Rattle.lua_machine.specs.Ready.{IsPlaced, IsWaiting, IsReady}
+use Rattle.lua_machine.specs.Ready.{IsWaiting, AreFit, IsReady}
 use Rattle.lua_machine.specs.Does.{site_or, site_at}
 use Rattle.lua_machine.specs.Arguments.{args_at}
 use Rattle.lua_machine.specs.Callees.{callee_at}
-use Rattle.lua_machine.specs.Entering.{HasFunction, proto_for, CanCall, free_cells, entered, HasEntered}
+use Rattle.lua_machine.specs.Entering.{HasFunction, proto_for, CanCall, free_cells, called, entered, HasEntered}
 use Rattle.lua_machine.specs.Calling.{calling_frames}
 use Rattle.lua_machine.proofs.Keeping.{get_in, weaker, waiting_more, sound_at}
 use Rattle.lua_machine.proofs.Fetching.{code_is}
 use Rattle.lua_machine.proofs.Loads.{all_last}
+use Rattle.lua_machine.proofs.Waiting.{pushed_frames}
 
 -- ---- lists
 
@@ -81,6 +84,41 @@ called_frames m wants extra is proto =
     ap (frames_below m.heap.texts (more_extra m extra) (length m.extras)) (reverse-append m.frames (waiting m wants ∷ []))
     ∙ same_below m.heap.texts m extra (length m.extras) (waiting m wants ∷ reverse m.frames) (omega arith) (is.extra, is.below)
     ∙ ap (λ (o : Option Place). waits (next (run_of m)) (wants_view wants) o ∷ frames_of m) (waiting_place m wants proto)
+
+-- where the function that makes the call waits
+waits_here : (m : EngineView) (wants : Wants) (first count : ℕ) → CanCall wants first count m → IsWaiting m.chunks (length m.values) (length m.cells) (waiting m wants)
+waits_here m wants first count r =
+    let inside = subst (λ (q : ProtoView). m.pc + 1 < length q.instrs) r.ready.proto r.leads.inside in
+    let height = subst (λ (q : ProtoView). cells_at q (m.pc + 1) ≤ cells_at q m.pc) r.ready.proto r.leads.height in
+    let there = r.ready.placed.height in
+    record {
+      placed = record { known = r.ready.placed.known; inside = inside; room = r.ready.placed.room; height = omega (arith, there, height) };
+      wants = r.fits;
+    }
+
+-- ---- a function of the library is to run
+
+module _ (m : EngineView) (wants : Wants) (first count : ℕ) (r : CanCall wants first count m) where
+  waits_called : (args : List Value) → frames_of (called wants first args m) ≡ calling_frames wants m
+  waits_called args = pushed_frames m wants ∙ ap (λ (o : Option Place). waits (next (run_of m)) (wants_view wants) o ∷ frames_of m) (waiting_place m wants r.ready.proto)
+
+  abbrev serves : (asks : List Ask) → Native → List s.Frame → List meant.Value → Config
+  serves asks f frames args = record { active = library (native_view f) args first (free_cells m); frames = frames; registers = registers_of m; state = state_of asks m }
+
+  pub called_config : (f : Native) (args : List Value) (meant_args : List meant.Value) (new : EngineView) → new ≡ called wants first args m → map (value_view m.heap.texts) args ≡ meant_args → (asks : List Ask) → serving_config f asks new ≡ begun (built_in (native_view f)) meant_args (calling_frames wants m) first (free_cells m) (registers_of m) (state_of asks m)
+  called_config f args meant_args new is same asks =
+      ap (λ (y : EngineView). serving_config f asks y) is
+      ∙ ap (λ (frames : List s.Frame). serves asks f frames (map (value_view m.heap.texts) args)) (waits_called args)
+      ∙ ap (λ (vs : List meant.Value). serves asks f (calling_frames wants m) vs) same
+
+  pub called_fit : (args : List Value) (new : EngineView) → new ≡ called wants first args m → AreFit new
+  called_fit args new is =
+      subst AreFit (sym is)
+      (record {
+        frames = all_last (IsWaiting m.chunks (length m.values) (length m.cells)) m.frames (waiting m wants) r.ready.fit.frames (waits_here m wants first count r);
+        functions = r.ready.fit.functions;
+        chunks = r.ready.fit.chunks;
+      })
 
 -- ---- the function that began
 
@@ -151,11 +189,7 @@ module _ (m : EngineView) (wants : Wants) (id first count : ℕ) (behind : Behin
     -- the function that waits
     waits_there : IsWaiting m.chunks (length e.values) (length e.cells) (waiting m wants)
     waits_there =
-        let inside = subst (λ (q : ProtoView). m.pc + 1 < length q.instrs) r.ready.proto r.leads.inside in
-        let height = subst (λ (q : ProtoView). cells_at q (m.pc + 1) ≤ cells_at q m.pc) r.ready.proto r.leads.height in
-        let there = r.ready.placed.height in
-        let placed : IsPlaced m.chunks (length m.values) (length m.cells) m.chunk m.func (m.pc + 1) m.base m.cell_base = record { known = r.ready.placed.known; inside = inside; room = r.ready.placed.room; height = omega (arith, there, height) } in
-        waiting_more m.chunks (length m.values) (length e.values) (length m.cells) (length e.cells) e.longer e.taller (waiting m wants) (record { placed = placed; wants = r.fits })
+        waiting_more m.chunks (length m.values) (length e.values) (length m.cells) (length e.cells) e.longer e.taller (waiting m wants) (waits_here m wants first count r)
 
     pub entered_ready : IsReady new
     entered_ready =

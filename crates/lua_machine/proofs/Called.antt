@@ -8,27 +8,30 @@ use Rattle.lua_meaning.specs.Value as meant
 use Rattle.lua_meaning.specs.Message.{Ask}
 use Rattle.lua_meaning.specs.Fault.{placed, call_text}
 use Rattle.lua_heap.specs.declared.value.Value.{Value}
+use Rattle.lua_heap.specs.declared.native.Native.{Native}
+use Rattle.lua_heap.specs.Native.{native_view}
 use Rattle.lua_heap.specs.Value.{value_view}
 use Rattle.lua_code.specs.State.{Config, Step, on}
-use Rattle.lua_code.specs.Frames.{Callee, has_room, raised, begun, entering_called}
+use Rattle.lua_code.specs.Frames.{Callee, built_in, has_room, raised, begun, entering_called}
 use Rattle.lua_code.specs.Act.{at_line}
 use Rattle.lua_machine.specs.declared.arguments.Behind.{Behind}
 use Rattle.lua_machine.specs.declared.arguments.Behind.TheVariants.{Args}
-use Rattle.lua_machine.specs.declared.invoke.Callee.TheVariants.{Runs, Handles, Nothing}
+use Rattle.lua_machine.specs.declared.invoke.Callee.TheVariants.{Nothing}
 use Rattle.lua_machine.specs.declared.frame.Wants.{Wants}
 use Rattle.lua_machine.specs.declared.frame.Frame.{Frame}
 use Rattle.lua_machine.specs.declared.status.Status.{Status}
-use Rattle.lua_machine.specs.declared.status.Status.TheVariants.{Goes, NoTick, Raises, Ends, NotYet}
+use Rattle.lua_machine.specs.declared.status.Status.TheVariants.{Goes, NoTick, Serves, Raises, Ends, NotYet}
 use Rattle.lua_machine.specs.View.{EngineView, frames_below, frames_of, registers_of, run_of, state_of}
 use Rattle.lua_machine.specs.Made.{IsEngine}
 use Rattle.lua_machine.specs.Does.{site_at, step_as, IsKept, Came}
 use Rattle.lua_machine.specs.Errors.{Raised}
-use Rattle.lua_machine.specs.Arguments.{args_at}
-use Rattle.lua_machine.specs.Callees.{callee_at, called_at, CallsLibrary}
-use Rattle.lua_machine.specs.Entering.{HasFunction, CanCall, free_cells, HasEntered}
+use Rattle.lua_machine.specs.Arguments.{given, args_at}
+use Rattle.lua_machine.specs.Callees.{callee_at, called_at}
+use Rattle.lua_machine.specs.Entering.{HasFunction, CanCall, free_cells, called, HasEntered}
 use Rattle.lua_machine.specs.Calling.{IsCallee, calling_frames, entering_step, EntersAs, calling_step, CallsAs}
 use Rattle.lua_machine.proofs.Turning.{ticking_one, no_tick}
-use Rattle.lua_machine.proofs.Begun.{entered_config, entered_ready}
+use Rattle.lua_machine.proofs.Begun.{entered_config, entered_ready, called_config, called_fit}
+use Rattle.lua_machine.proofs.Entered.{given_view}
 
 -- ---- a step as another one
 
@@ -43,6 +46,7 @@ came_as does does_so yet status old old_so new same c =
     so : (status : Status) → IsKept ⊥ status old new → IsKept yet status old_so new
     so Goes kept = kept
     so NoTick kept = kept
+    so (Serves f) kept = kept
     so (Raises v) kept = kept
     so Ends kept = kept
     so NotYet kept = absurd kept.0
@@ -83,45 +87,56 @@ has_room_for m wants lt = room_for m wants ∙ lt-ltb (length m.frames) 4096 lt
 pub has_no_room : (m : EngineView) (wants : Wants) → 4096 ≤ length m.frames → has_room (calling_frames wants m) ≡ false
 has_no_room m wants le = room_for m wants ∙ le-ltb (length m.frames) 4096 le
 
--- ---- a call of a function of the program
+-- ---- a call of a function
 
 abbrev a_tick_less : EngineView → EngineView
 a_tick_less m = record m { ticks = m.ticks - 1 }
 
-module _ (m : EngineView) (wants : Wants) (id first : ℕ) (args : List meant.Value) where
+module _ (m : EngineView) (wants : Wants) (f : Callee) (first : ℕ) (args : List meant.Value) where
   -- where there is a tick
-  ticked : (b : Bool) → 0 < m.ticks → has_room (calling_frames wants m) ≡ b → (asks : List Ask) → entering_step wants id first args asks m ≡ (if b then on (begun (callee_at m id) args (calling_frames wants m) first (free_cells m) (registers_of m) (state_of asks (a_tick_less m))) else raised (frames_of m) (registers_of m) (meant.str (placed (at_line (run_of m) (site_at m.proto m.pc)) (codes "stack overflow"))) (state_of asks (a_tick_less m)))
+  ticked : (b : Bool) → 0 < m.ticks → has_room (calling_frames wants m) ≡ b → (asks : List Ask) → entering_step wants f first args asks m ≡ (if b then on (begun f args (calling_frames wants m) first (free_cells m) (registers_of m) (state_of asks (a_tick_less m))) else raised (frames_of m) (registers_of m) (meant.str (placed (at_line (run_of m) (site_at m.proto m.pc)) (codes "stack overflow"))) (state_of asks (a_tick_less m)))
   ticked b lt room asks =
       ticking_one m.ticks (state_of asks m) _ lt
-      ∙ ap (λ (c : Bool). if c then on (begun (callee_at m id) args (calling_frames wants m) first (free_cells m) (registers_of m) (state_of asks (a_tick_less m))) else raised (frames_of m) (registers_of m) (meant.str (placed (at_line (run_of m) (site_at m.proto m.pc)) (codes "stack overflow"))) (state_of asks (a_tick_less m))) room
+      ∙ ap (λ (c : Bool). if c then on (begun f args (calling_frames wants m) first (free_cells m) (registers_of m) (state_of asks (a_tick_less m))) else raised (frames_of m) (registers_of m) (meant.str (placed (at_line (run_of m) (site_at m.proto m.pc)) (codes "stack overflow"))) (state_of asks (a_tick_less m))) room
 
-module _ (m : EngineView) (wants : Wants) (id first count : ℕ) (behind : Behind) where
+module _ (m : EngineView) (wants : Wants) (f : Callee) (first count : ℕ) (behind : Behind) where
   -- no tick is left
-  pub enters_not : m.ticks ≡ 0 → EntersAs wants id first count behind NoTick m m
+  pub enters_not : m.ticks ≡ 0 → EntersAs wants f first count behind NoTick m m
   enters_not none = record { step = λ asks. no_tick m.ticks (state_of asks m) _ none; kept = tt }
 
   -- too many calls are active
-  pub enters_too_deep : (new : EngineView) (v : Value) → 0 < m.ticks → 4096 ≤ length m.frames → Raised (codes "stack overflow") v (a_tick_less m) new → EntersAs wants id first count behind (Raises v) m new
+  pub enters_too_deep : (new : EngineView) (v : Value) → 0 < m.ticks → 4096 ≤ length m.frames → Raised (codes "stack overflow") v (a_tick_less m) new → EntersAs wants f first count behind (Raises v) m new
   enters_too_deep new v lt deep s =
-      let c : Came (λ asks. entering_step wants id first (args_at m first count behind) asks m) ⊥ (Raises v) (a_tick_less m) new =
-      came_raised _ ⊥ (a_tick_less m) new (codes "stack overflow") v s (ticked m wants id first (args_at m first count behind) false lt (has_no_room m wants deep)) in
+      let c : Came (λ asks. entering_step wants f first (args_at m first count behind) asks m) ⊥ (Raises v) (a_tick_less m) new =
+      came_raised _ ⊥ (a_tick_less m) new (codes "stack overflow") v s (ticked m wants f first (args_at m first count behind) false lt (has_no_room m wants deep)) in
       record { step = c.step; kept = c.kept }
 
-  pub enters : (new : EngineView) → IsEngine m → CanCall wants first count m → HasFunction m id → 0 < m.ticks → length m.frames < 4096 → HasEntered wants id first count behind (a_tick_less m) new → EntersAs wants id first count behind Goes m new
-  enters new is r f lt room e =
+module _ (m : EngineView) (wants : Wants) (first count : ℕ) (behind : Behind) (is : IsEngine m) (r : CanCall wants first count m) where
+  engine_less : IsEngine (a_tick_less m)
+  engine_less = record { events = is.events; extra = is.extra; below = is.below; values = is.values; tail = is.tail; extras = is.extras; args = is.args; cells = is.cells; chunks = is.chunks }
+
+  can_less : CanCall wants first count (a_tick_less m)
+  can_less = record { ready = record { placed = r.ready.placed; proto = r.ready.proto; fit = record { frames = r.ready.fit.frames; functions = r.ready.fit.functions; chunks = r.ready.fit.chunks } }; short = r.short; leads = r.leads; fits = r.fits; slots = r.slots }
+
+  pub enters : (id : ℕ) (new : EngineView) → HasFunction m id → 0 < m.ticks → length m.frames < 4096 → HasEntered wants id first count behind (a_tick_less m) new → EntersAs wants (callee_at m id) first count behind Goes m new
+  enters id new f lt room e =
       record {
-        step = λ asks. ticked m wants id first (args_at m first count behind) true lt (has_room_for m wants room) asks ∙ ap on (sym (entered_config (a_tick_less m) wants id first count behind (can_less r) (function_less f) (engine_less is) new e asks));
-        kept = entered_ready (a_tick_less m) wants id first count behind (can_less r) (function_less f) (engine_less is) new e;
+        step = λ asks. ticked m wants (callee_at m id) first (args_at m first count behind) true lt (has_room_for m wants room) asks ∙ ap on (sym (entered_config (a_tick_less m) wants id first count behind can_less (function_less f) engine_less new e asks));
+        kept = entered_ready (a_tick_less m) wants id first count behind can_less (function_less f) engine_less new e;
       }
     where
-      engine_less : IsEngine m → IsEngine (a_tick_less m)
-      engine_less is = record { events = is.events; extra = is.extra; below = is.below; values = is.values; tail = is.tail; extras = is.extras; args = is.args; cells = is.cells; chunks = is.chunks }
-
-      can_less : CanCall wants first count m → CanCall wants first count (a_tick_less m)
-      can_less r = record { ready = record { placed = r.ready.placed; proto = r.ready.proto; fit = record { frames = r.ready.fit.frames; functions = r.ready.fit.functions; chunks = r.ready.fit.chunks } }; short = r.short; leads = r.leads; fits = r.fits; slots = r.slots }
-
       function_less : HasFunction m id → HasFunction (a_tick_less m) id
       function_less f = record { made = f.made; code = f.code }
+
+  -- one of the library
+  pub enters_library : (f : Native) (new : EngineView) → 0 < m.ticks → length m.frames < 4096 → new ≡ called wants first (given (a_tick_less m) first count behind) (a_tick_less m) → EntersAs wants (built_in (native_view f)) first count behind (Serves f) m new
+  enters_library f new lt room e =
+      record {
+        step = λ asks.
+            ticked m wants (built_in (native_view f)) first (args_at m first count behind) true lt (has_room_for m wants room) asks
+            ∙ ap on (sym (called_config (a_tick_less m) wants first count can_less f (given (a_tick_less m) first count behind) (args_at m first count behind) new e (given_view (a_tick_less m) first count behind r.slots) asks));
+        kept = called_fit (a_tick_less m) wants first count can_less (given (a_tick_less m) first count behind) new e;
+      }
 
 -- ---- a call of a value
 
@@ -131,25 +146,25 @@ module _ (m : EngineView) (wants : Wants) (v : Value) (first : ℕ) (args : List
   called_as o e asks = ap (λ (c : Option (Callee × List meant.Value)). entering_called (raised (calling_frames wants m) (registers_of m)) (value_view m.heap.texts v) c (calling_frames wants m) first (free_cells m) (registers_of m) (state_of asks m)) e
 
 module _ (m new : EngineView) (wants : Wants) (v : Value) (first count : ℕ) (behind : Behind) where
-  pub calls_so : (id : ℕ) (status : Status) → IsCallee (Runs id) v m → EntersAs wants id first count behind status m new → CallsAs wants v first count behind status m new
-  calls_so id status is c =
-      came_as _ _ (CallsLibrary m v) status m m new (called_as m wants v first (args_at m first count behind) (Some (callee_at m id, args_at m first count behind)) (is.1 (args_at m first count behind))) c
-
-  pub calls_library : CallsLibrary m v → CallsAs wants v first count behind NotYet m m
-  calls_library cause = record { step = λ asks. refl; kept = (cause, refl) }
+  pub calls_so : (f : Callee) (status : Status) → called_at m v (args_at m first count behind) ≡ Some (f, args_at m first count behind) → EntersAs wants f first count behind status m new → CallsAs wants v first count behind status m new
+  calls_so f status is c = came_as _ _ ⊥ status m m new (called_as m wants v first (args_at m first count behind) (Some (f, args_at m first count behind)) is) c
 
   pub calls_nothing : (error : Value) → IsCallee Nothing v m → Raised (call_text (value_view m.heap.texts v)) error m new → CallsAs wants v first count behind (Raises error) m new
-  calls_nothing error is s = came_raised _ (CallsLibrary m v) m new (call_text (value_view m.heap.texts v)) error s (called_as m wants v first (args_at m first count behind) None (is (args_at m first count behind)))
+  calls_nothing error is s = came_raised _ ⊥ m new (call_text (value_view m.heap.texts v)) error s (called_as m wants v first (args_at m first count behind) None (is (args_at m first count behind)))
 
 -- with the value before the arguments
-pub calls_handled : (m new : EngineView) (wants : Wants) (v : Value) (first count : ℕ) (behind : Behind) (id : ℕ) (status : Status) (args : List Value) → IsCallee (Handles id) v m → map (value_view m.heap.texts) args ≡ value_view m.heap.texts v ∷ args_at m first count behind → EntersAs wants id first 0 Args status (record m { args = args }) new → CallsAs wants v first count behind status m new
-calls_handled m new wants v first count behind id status args is same c =
-    came_as _ _ (CallsLibrary m v) status (record m { args = args }) m new
+pub calls_handled : (m new : EngineView) (wants : Wants) (v : Value) (first count : ℕ) (behind : Behind) (f : Callee) (status : Status) (args : List Value) → called_at m v (args_at m first count behind) ≡ Some (f, value_view m.heap.texts v ∷ args_at m first count behind) → map (value_view m.heap.texts) args ≡ value_view m.heap.texts v ∷ args_at m first count behind → EntersAs wants f first 0 Args status (record m { args = args }) new → CallsAs wants v first count behind status m new
+calls_handled m new wants v first count behind f status args is same c =
+    came_as _ _ ⊥ status (record m { args = args }) m new
     (λ asks.
-    called_as m wants v first (args_at m first count behind) (Some (callee_at m id, value_view m.heap.texts v ∷ args_at m first count behind)) (is.1 (args_at m first count behind)) asks
-    ∙ ap (λ (vs : List meant.Value). entering_step wants id first vs asks m) (sym same)) c
+    called_as m wants v first (args_at m first count behind) (Some (f, value_view m.heap.texts v ∷ args_at m first count behind)) is asks
+    ∙ ap (λ (vs : List meant.Value). entering_step wants f first vs asks m) (sym same)) c
 
 -- whatever came of it
 pub calls_each : {E : Type 0} (o : Result Status E) (P Q : Status → Type 0) → ((status : Status) → P status → Q status) → IfOk o P → IfOk o Q
 calls_each (Ok status) P Q f p = f status p
 calls_each (Err e) P Q f p = p
+
+pub each_came : {A E : Type 0} (o : Result A E) (P Q : A → Type 0) → ((x : A) → P x → Q x) → IfOk o P → IfOk o Q
+each_came (Ok x) P Q f p = f x p
+each_came (Err e) P Q f p = p

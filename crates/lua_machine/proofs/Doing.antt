@@ -1,15 +1,13 @@
 -- What a change of the machine's is to the definitions.
 use Rattle.std.proofs.Common.{◌≡◌, ℕ, zero, suc, ◌+◌, ◌<◌, List, [], ◌∷◌, length, set, Bool, true, false, refl, sym, ap, ◌∙◌, arith}
 use Rattle.std.proofs.lemmas.Bool.{eq-eqb, eqb-true}
-use Rattle.std.specs.Prelude.{◌==◌, if◌then◌else◌, ℤ}
+use Rattle.std.specs.Prelude.{◌==◌, if◌then◌else◌}
 use Rattle.std.specs.List.{AllByRecursion}
 use Rattle.std.proofs.lemmas.List.{length-map}
-use Rattle.lua_tree.specs.Tree.{Bytes, BinOp}
+use Rattle.lua_tree.specs.Tree.{Bytes}
 use Rattle.lua_meaning.specs.Value as meant
 use Rattle.lua_meaning.specs.Value.{num}
 use Rattle.lua_meaning.specs.Store.{Store, set_cell, add_table}
-use Rattle.lua_meaning.specs.Handlers as handlers
-use Rattle.lua_meaning.specs.Handlers.{lookup}
 use Rattle.lua_meaning.specs.Message.{Ask}
 use Rattle.lua_heap.specs.declared.value.Value.{Value}
 use Rattle.lua_heap.specs.declared.value.Value.TheVariants.{Table}
@@ -18,18 +16,17 @@ use Rattle.lua_heap.specs.Heap.{HeapView, store_of, table_view, counts, IsMade, 
 use Rattle.lua_heap.proofs.Callers.{IsMade-later}
 use Rattle.lua_code.specs.Instr as i
 use Rattle.lua_code.specs.Instr.{Site, binary, get_field, slot}
-use Rattle.lua_code.specs.Doing.{Doing, gives, binary_doing, looked_up}
-use Rattle.lua_code.specs.State.{put, Config, Step, on}
+use Rattle.lua_code.specs.Doing.{Doing, gives}
+use Rattle.lua_code.specs.State.{put, Config, on}
 use Rattle.lua_code.specs.Act as act
 use Rattle.lua_operators.proofs.Callers.{AreEvents-later}
 use Rattle.lua_machine.specs.View.{EngineView, value_at, cell_at, slots_view, registers_of, run_of, frames_of, state_in, state_of, config_in, config_of}
 use Rattle.lua_machine.specs.Made.{AreMade, IsMadeChunk, IsEngine}
-use Rattle.lua_machine.specs.Numbers.{GivesOfNumbers}
 use Rattle.lua_machine.specs.Does.{with_slot, at_pc, Did}
 
 -- ---- lists
 
-value_set_same : (xs : List Value) (n : ℕ) (x : Value) → n < length xs → value_at (set xs n x) n ≡ x
+pub value_set_same : (xs : List Value) (n : ℕ) (x : Value) → n < length xs → value_at (set xs n x) n ≡ x
 value_set_same [] n x lt = absurd (let e : ⊥ = omega (arith, lt) in e)
 value_set_same (y ∷ xs) zero x lt = refl
 value_set_same (y ∷ xs) (suc n) x lt = value_set_same xs n x (omega (arith, lt))
@@ -94,17 +91,6 @@ puts m n v w lt same asks =
       state = state_of asks m;
     })) (slots_set m.heap.texts m.values (m.base + n) v lt)
 
--- where two numbers stand in slots
-pub binary_did : (m : EngineView) (s : Site) (op : BinOp) (to left right : ℕ) (x y : ℤ) (v : Value) → m.base + to < length m.values → slots_view m.heap.texts m.values (m.base + left) ≡ num x → slots_view m.heap.texts m.values (m.base + right) ≡ num y → GivesOfNumbers op x y v → Did (binary s op to (slot left) (slot right)) m (with_slot m to v)
-binary_did m s op to left right x y v lt a b g asks =
-    ap (λ w. does_on asks (binary_doing op (store_of m.heap) w (slots_view m.heap.texts m.values (m.base + right)))) a
-    ∙ ap (λ w. does_on asks (binary_doing op (store_of m.heap) (num x) w)) b
-    ∙ ap (λ d. does_on asks d) (g.gives m.heap (store_of m.heap))
-    ∙ puts m to v _ lt refl asks
-  where
-    does_on : List Ask → Doing → Step
-    does_on asks d = act.does (run_of m) (frames_of m) (registers_of m) (state_of asks m) s to d
-
 -- ---- a heap that changes
 
 module _ {X : Type 0} where
@@ -136,12 +122,6 @@ becomes_config m h change asks b =
     ap (λ t. config_in t h.functions (store_of h) asks m) b.texts
     ∙ ap (λ f. config_in m.heap.texts f (store_of h) asks m) b.functions
     ∙ ap (λ s. config_in m.heap.texts m.heap.functions s asks m) b.store
-
--- where a field is found
-pub field_did : (m : EngineView) (s : Site) (to base key : ℕ) (v : Value) → m.base + to < length m.values → lookup (store_of m.heap) (slots_view m.heap.texts m.values (m.base + base)) (slots_view m.heap.texts m.values (m.base + key)) ≡ handlers.found (value_view m.heap.texts v) → Did (get_field s to (slot base) (slot key)) m (with_slot m to v)
-field_did m s to base key v lt found asks =
-    ap (λ o. act.does (run_of m) (frames_of m) (registers_of m) (state_of asks m) s to (looked_up (slots_view m.heap.texts m.values (m.base + key)) o)) found
-    ∙ puts m to v _ lt refl asks
 
 -- where a cell is set
 pub cell_set : (m : EngineView) (h : HeapView) (cell from id : ℕ) (v : Value) → id ≡ cell_at m.cells (m.cell_base + cell) → v ≡ value_at m.values (m.base + from) → Becomes m.heap h (λ s. set_cell s id (value_view m.heap.texts v)) → Did (i.set_cell cell (slot from)) m (record m { heap = h; pc = m.pc + 1 })

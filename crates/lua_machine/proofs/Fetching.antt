@@ -14,7 +14,7 @@ use Rattle.lua_code.specs.Natives.{Program}
 use Rattle.lua_code.specs.Act as act
 use Rattle.lua_machine.specs.View.{EngineView, protos_at, no_proto, code_of, run_of, frames_of, registers_of, state_of, config_of}
 use Rattle.lua_machine.specs.declared.status.Status.{Status}
-use Rattle.lua_machine.specs.declared.status.Status.TheVariants.{Goes, NoTick, Raises, Ends, NotYet}
+use Rattle.lua_machine.specs.declared.status.Status.TheVariants.{Goes, NoTick, Serves, Raises, Ends, NotYet}
 use Rattle.lua_machine.specs.Ready.{IsReady, IsReadyFor}
 use Rattle.lua_machine.specs.Runs.{StandsBefore, Steps}
 use Rattle.lua_machine.specs.Does.{site_or, made_before, instr_of, step_at, step_as, IsElsewhere, IsKept, Takes}
@@ -112,6 +112,7 @@ module _ (m new : EngineView) (r : IsReady m) (x : Instr) (ready : IsReadyFor x 
   kept_so : (status : Status) → IsKept (IsElsewhere x m) status m new → IsKept (StandsBefore m) status m new
   kept_so Goes kept = kept
   kept_so NoTick kept = kept
+  kept_so (Serves f) kept = kept
   kept_so (Raises v) kept = kept
   kept_so Ends kept = kept
   kept_so NotYet kept = (record { instr = x; next = ready.next; elsewhere = kept.0 }, kept.1)

@@ -21,14 +21,14 @@ use Rattle.lua_code.specs.Act as act
 use Rattle.lua_machine.specs.declared.arguments.Behind.{Behind}
 use Rattle.lua_machine.specs.declared.frame.Wants.{Wants}
 use Rattle.lua_machine.specs.declared.frame.Wants.TheVariants.{ToSlot, ToTail}
-use Rattle.lua_machine.specs.declared.invoke.Callee.TheVariants.{Runs, Handles, Library, Nothing}
+use Rattle.lua_machine.specs.declared.invoke.Callee.TheVariants.{Runs, Handles, Library, HandlesLibrary, Nothing}
 use Rattle.lua_machine.specs.declared.status.Status.{Status}
 use Rattle.lua_machine.specs.declared.status.Status.TheVariants.{Goes, NoTick}
 use Rattle.lua_machine.specs.View.{EngineView, value_at, slots_view, wants_view, registers_of, run_of, frames_of, made_view, state_of, config_of}
 use Rattle.lua_machine.specs.Ready.{IsReady, IsReadyFor}
 use Rattle.lua_machine.specs.Does.{site_at, step_of, step_at, step_as, at_pc, Takes}
 use Rattle.lua_machine.specs.Arguments.{filled, behind_where, behind_of, args_at}
-use Rattle.lua_machine.specs.Callees.{callee_at, called_at, RunsLibrary, CallsLibrary}
+use Rattle.lua_machine.specs.Callees.{callee_at, called_at}
 use Rattle.lua_machine.specs.Entering.{HasFunction, CanCall}
 use Rattle.lua_machine.specs.Calling.{IsNoFunction, IsCallee, calling_frames, calling_step, CallsAs}
 use Rattle.lua_machine.proofs.Doing.{slots_set}
@@ -82,8 +82,8 @@ module _ (m : EngineView) (v h : Value) (other : IsNoFunction v) (is : value_vie
         ∙ ap (λ (o : Option Callee). with_args o (value_view m.heap.texts v ∷ args)) (callee_is m id f.made),
   )
 
-  pub handles_library : (f : native.Native) → h ≡ Native f → IsCallee Library v m
-  handles_library f e = subst RunsLibrary (sym (handled [] ∙ ap (λ (w : Value). with_args (callee_of made (value_view m.heap.texts w)) (value_view m.heap.texts v ∷ [])) e)) tt
+  pub handles_library : (f : native.Native) → h ≡ Native f → IsCallee (HandlesLibrary f) v m
+  handles_library f e = λ args. handled args ∙ ap (λ (w : Value). with_args (callee_of made (value_view m.heap.texts w)) (value_view m.heap.texts v ∷ args)) e
 
   nothing : (w : Value) → IsNoFunction w → callee_of made (value_view m.heap.texts w) ≡ None
   nothing (Func id) p = absurd p
@@ -98,8 +98,8 @@ pub runs_value : (m : EngineView) (v : Value) (id : ℕ) → v ≡ Func id → I
 runs_value m v id e r known =
     subst (λ (w : Value). IsCallee (Runs id) w m) (sym e) (runs_function m id (has_function m id r (subst (IsMade m.heap) e known)))
 
-pub library_value : (m : EngineView) (v : Value) (f : native.Native) → v ≡ Native f → IsCallee Library v m
-library_value m v f e = subst (CallsLibrary m) (sym e) tt
+pub library_value : (m : EngineView) (v : Value) (f : native.Native) → v ≡ Native f → IsCallee (Library f) v m
+library_value m v f e = λ args. ap (λ (w : Value). called_at m w args) e
 
 pub handles_value : (m : EngineView) (v h : Value) (id : ℕ) → IsNoFunction v → value_view m.heap.texts h ≡ handler (store_of m.heap) (value_view m.heap.texts v) (codes "__call") → h ≡ Func id → IsReady m → IsMade m.heap h → IsCallee (Handles id) v m
 handles_value m v h id p is e r known = handles_function m v h p is id e (has_function m id r (subst (IsMade m.heap) e known))

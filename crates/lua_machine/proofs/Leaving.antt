@@ -85,33 +85,47 @@ left : (m : EngineView) (from count : ℕ) (tailed : Bool) (asks : List Ask) →
 left m from count true asks = refl
 left m from count false asks = refl
 
--- the frame on top goes on with the first result
-pub left_one : (m new : EngineView) (is : IsEngine m) (f : Frame) (from count : ℕ) (tailed : Bool) (v : Value) (went : WentOn f m new) → WantsOne f.wants → WantsFit f.base (length m.values) f.wants → value_view m.heap.texts v ≡ first (results_at m (m.base + from) count tailed) → Did (i.leave from count tailed) m (record new { values = received_values f.wants v new })
-left_one m new is f from count tailed v went one fits e asks =
-    let x : EngineView = resumed m went.frames f in
-    left m from count tailed asks
-    ∙ ap (leaves asks m (results_at m (m.base + from) count tailed)) (resumed_frames m is went.frames f went.were)
-    ∙ ap (λ (r : Registers). on (record { active = (config_of asks x).active; frames = frames_of x; registers = r; state = state_of asks x }))
-    (receives x f.wants v (results_at m (m.base + from) count tailed) one fits e)
-    ∙ ap (λ (y : EngineView). on (config_of asks (record y { values = received_values f.wants v y }))) (sym went.are)
+-- results go to the frame on top
+module _ (m new : EngineView) (is : IsEngine m) (f : Frame) (went : WentOn f m new) (vs : List meant.Value) (asks : List Ask) where
+  -- it goes on with the first one
+  pub gives_one : (v : Value) → WantsOne f.wants → WantsFit f.base (length m.values) f.wants → value_view m.heap.texts v ≡ first vs → leaves asks m vs (frames_of m) ≡ on (config_of asks (record new { values = received_values f.wants v new }))
+  gives_one v one fits e =
+      let x : EngineView = resumed m went.frames f in
+      ap (leaves asks m vs) (resumed_frames m is went.frames f went.were)
+      ∙ ap (λ (r : Registers). on (record { active = (config_of asks x).active; frames = frames_of x; registers = r; state = state_of asks x }))
+      (receives x f.wants v vs one fits e)
+      ∙ ap (λ (y : EngineView). on (config_of asks (record y { values = received_values f.wants v y }))) (sym went.are)
 
--- the frame on top goes on with all of them
-pub left_all : (m new : EngineView) (is : IsEngine m) (f : Frame) (from count : ℕ) (tailed : Bool) (went : WentOn f m new) → ToTail ≡ f.wants → m.base + from + count ≤ length m.values → Did (i.leave from count tailed) m (record new { tail = held_at new (m.base + from) count tailed })
-left_all m new is f from count tailed went all le asks =
-    let x : EngineView = resumed m went.frames f in
-    let vs : List meant.Value = results_at m (m.base + from) count tailed in
-    left m from count tailed asks
-    ∙ ap (leaves asks m vs) (resumed_frames m is went.frames f went.were)
-    ∙ ap (λ (w : Wants). on (record { active = (config_of asks x).active; frames = frames_of x; registers = received (wants_view w) vs x.base (registers_of x); state = state_of asks x })) (sym all)
-    ∙ ap (λ ws. on (record { active = (config_of asks x).active; frames = frames_of x; registers = record { slots = (registers_of x).slots; cells = (registers_of x).cells; tail = ws }; state = state_of asks x })) (sym (held_view m (m.base + from) count tailed le))
-    ∙ ap (λ (y : EngineView). on (config_of asks (record y { tail = held_at y (m.base + from) count tailed }))) (sym went.are)
+  -- or with all of them
+  pub gives_all : (tail : List Value) → ToTail ≡ f.wants → map (value_view m.heap.texts) tail ≡ vs → leaves asks m vs (frames_of m) ≡ on (config_of asks (record new { tail = tail }))
+  gives_all tail all e =
+      let x : EngineView = resumed m went.frames f in
+      ap (leaves asks m vs) (resumed_frames m is went.frames f went.were)
+      ∙ ap (λ (w : Wants). on (record { active = (config_of asks x).active; frames = frames_of x; registers = received (wants_view w) vs x.base (registers_of x); state = state_of asks x })) (sym all)
+      ∙ ap (λ ws. on (record { active = (config_of asks x).active; frames = frames_of x; registers = record { slots = (registers_of x).slots; cells = (registers_of x).cells; tail = ws }; state = state_of asks x })) (sym e)
+      ∙ ap (λ (y : EngineView). on (config_of asks (record y { tail = tail }))) (sym went.are)
 
 -- no frame waits
+pub gives_last : (m : EngineView) (vs : List meant.Value) (asks : List Ask) (tail : List Value) → m.frames ≡ [] → map (value_view m.heap.texts) tail ≡ vs → leaves asks m vs (frames_of m) ≡ stop (ended (map (value_view m.heap.texts) tail) (state_of asks m))
+gives_last m vs asks tail none e =
+    ap (λ (fs : List Frame). leaves asks m vs (frames_of (record m { frames = fs }))) none
+    ∙ ap (λ ws. stop (ended ws (state_of asks m))) (sym e)
+
+-- those of a function that ends
+pub left_one : (m new : EngineView) (is : IsEngine m) (f : Frame) (from count : ℕ) (tailed : Bool) (v : Value) (went : WentOn f m new) → WantsOne f.wants → WantsFit f.base (length m.values) f.wants → value_view m.heap.texts v ≡ first (results_at m (m.base + from) count tailed) → Did (i.leave from count tailed) m (record new { values = received_values f.wants v new })
+left_one m new is f from count tailed v went one fits e asks =
+    left m from count tailed asks ∙ gives_one m new is f went (results_at m (m.base + from) count tailed) asks v one fits e
+
+pub left_all : (m new : EngineView) (is : IsEngine m) (f : Frame) (from count : ℕ) (tailed : Bool) (went : WentOn f m new) → ToTail ≡ f.wants → m.base + from + count ≤ length m.values → Did (i.leave from count tailed) m (record new { tail = held_at new (m.base + from) count tailed })
+left_all m new is f from count tailed went all le asks =
+    left m from count tailed asks
+    ∙ gives_all m new is f went (results_at m (m.base + from) count tailed) asks (held_at new (m.base + from) count tailed) all
+    (ap (λ (y : EngineView). map (value_view m.heap.texts) (held_at y (m.base + from) count tailed)) went.are ∙ held_view m (m.base + from) count tailed le)
+
 pub left_last : (m : EngineView) (from count : ℕ) (tailed : Bool) → m.frames ≡ [] → m.base + from + count ≤ length m.values → LeftOr false (i.leave from count tailed) m (record m { tail = held_at m (m.base + from) count tailed })
 left_last m from count tailed none le asks =
     left m from count tailed asks
-    ∙ ap (λ (fs : List Frame). leaves asks m (results_at m (m.base + from) count tailed) (frames_of (record m { frames = fs }))) none
-    ∙ ap (λ vs. stop (ended vs (state_of asks m))) (sym (held_view m (m.base + from) count tailed le))
+    ∙ gives_last m (results_at m (m.base + from) count tailed) asks (held_at m (m.base + from) count tailed) none (held_view m (m.base + from) count tailed le)
 
 pub one_unless : (w : Wants) → (w ≡ ToTail → ⊥) → WantsOne w
 one_unless ToTail other = other refl

@@ -22,3 +22,9 @@ pub mod Begun
 pub mod Called
 pub mod Entered
 pub mod Invoking
+pub mod Settling
+pub mod Settings
+pub mod Served
+pub mod Failing
+pub mod Handled
+pub mod Looping

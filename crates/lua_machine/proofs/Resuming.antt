@@ -1,5 +1,6 @@
 -- A frame that waited goes on, and is ready.
 use Rattle.std.proofs.Common.{◌≡◌, ℕ, ◌+◌, ◌<◌, ◌≤◌, List, [], ◌∷◌, ◌++◌, length, refl, sym, subst, Bool, arith}
+use Rattle.std.specs.Prelude.{map}
 use Rattle.std.specs.List.{AllByRecursion}
 use Rattle.lua_meaning.specs.Value.{first}
 use Rattle.lua_heap.specs.declared.value.Value.{Value}
@@ -15,8 +16,9 @@ use Rattle.lua_machine.specs.Frames.{resumed, WentOn, TopHasCode}
 use Rattle.lua_machine.specs.Results.{held_at, results_at, received_values, WantsOne}
 use Rattle.lua_machine.specs.Ready.{IsPlaced, IsWaiting, WantsFit, AreFit, IsReady, IsReadyFor}
 use Rattle.lua_machine.specs.Does.{Takes}
+use Rattle.lua_machine.specs.Serving.{Delivers}
 use Rattle.lua_machine.proofs.Taking.{length_set}
-use Rattle.lua_machine.proofs.Leaving.{left_one, left_all, left_last}
+use Rattle.lua_machine.proofs.Leaving.{gives_one, gives_all, gives_last, left_one, left_all, left_last}
 
 split_last : {A : Type 0} (P : A → Type 0) (xs : List A) (x : A) → AllByRecursion P (xs ++ x ∷ []) → AllByRecursion P xs × P x
 split_last P [] x all = (tt, all.0)
@@ -35,6 +37,9 @@ module _ (m : EngineView) (fit : AreFit m) (frames : List Frame) (f : Frame) (we
 
   pub top_known : f.func < length (protos_at m.chunks f.chunk)
   top_known = waited.1.placed.known
+
+  pub top_waits : IsWaiting m.chunks (length m.values) (length m.cells) f
+  top_waits = waited.1
 
   pub top_fits : WantsFit f.base (length m.values) f.wants
   top_fits = waited.1.wants
@@ -55,19 +60,19 @@ module _ (m : EngineView) (fit : AreFit m) (frames : List Frame) (f : Frame) (we
 pub top_has_code : (m : EngineView) → AreFit m → TopHasCode m
 top_has_code m fit frames f were = top_known m fit frames f were
 
-module _ (m new : EngineView) (r : IsReady m) (f : Frame) (went : WentOn f m new) where
+module _ (m new : EngineView) (fit : AreFit m) (f : Frame) (went : WentOn f m new) where
   abbrev x : EngineView
   x = resumed m went.frames f
 
   pub ready_one : (v : Value) → IsReady (record new { values = received_values f.wants v new })
   ready_one v =
       subst (λ (y : EngineView). IsReady (record y { values = received_values f.wants v y })) (sym went.are)
-      (resumed_ready m r.fit went.frames f went.were (received_values f.wants v x) m.tail (sym (received_long f.wants v x)))
+      (resumed_ready m fit went.frames f went.were (received_values f.wants v x) m.tail (sym (received_long f.wants v x)))
 
   pub ready_all : (tail : List Value) → IsReady (record new { tail = tail })
   ready_all tail =
       subst (λ (y : EngineView). IsReady (record y { tail = tail })) (sym went.are)
-      (resumed_ready m r.fit went.frames f went.were m.values tail refl)
+      (resumed_ready m fit went.frames f went.were m.values tail refl)
 
 module _ (m new : EngineView) (is : IsEngine m) (from count : ℕ) (tailed : Bool) (r : IsReadyFor (Leave from count tailed) m) where
   room : m.base + from + count ≤ length m.values
@@ -78,7 +83,7 @@ module _ (m new : EngineView) (is : IsEngine m) (from count : ℕ) (tailed : Boo
   leaves_one f v went one e =
       record {
         step = left_one m new is f from count tailed v went one (top_fits m r.ready.fit went.frames f went.were) e;
-        kept = ready_one m new r.ready f went v;
+        kept = ready_one m new r.ready.fit f went v;
       }
 
   -- or all of them
@@ -86,9 +91,28 @@ module _ (m new : EngineView) (is : IsEngine m) (from count : ℕ) (tailed : Boo
   leaves_all f went all =
       record {
         step = left_all m new is f from count tailed went all room;
-        kept = ready_all m new r.ready f went (held_at new (m.base + from) count tailed);
+        kept = ready_all m new r.ready.fit f went (held_at new (m.base + from) count tailed);
       }
 
   -- no frame waits
   pub leaves_last : m.frames ≡ [] → Takes (Leave from count tailed) Ends m (record m { tail = held_at m (m.base + from) count tailed })
   leaves_last none = record { step = left_last m from count tailed none room; kept = tt }
+
+-- results that were put together as arguments are
+module _ (m new : EngineView) (is : IsEngine m) (fit : AreFit m) where
+  pub delivers_one : (f : Frame) (v : Value) → WentOn f m new → WantsOne f.wants → value_view m.heap.texts v ≡ first (map (value_view m.heap.texts) m.args) → Delivers Goes m (record new { values = received_values f.wants v new })
+  delivers_one f v went one e =
+      record {
+        step = λ asks. gives_one m new is f went (map (value_view m.heap.texts) m.args) asks v one (top_fits m fit went.frames f went.were) e;
+        kept = ready_one m new fit f went v;
+      }
+
+  pub delivers_all : (f : Frame) → WentOn f m new → ToTail ≡ f.wants → Delivers Goes m (record new { tail = m.args })
+  delivers_all f went all =
+      record {
+        step = λ asks. gives_all m new is f went (map (value_view m.heap.texts) m.args) asks m.args all refl;
+        kept = ready_all m new fit f went m.args;
+      }
+
+  pub delivers_last : m.frames ≡ [] → Delivers Ends m (record m { tail = m.args })
+  delivers_last none = record { step = λ asks. gives_last m (map (value_view m.heap.texts) m.args) asks m.args none refl; kept = tt }

@@ -1,10 +1,10 @@
 -- What a call of a value runs.
-use Rattle.std.specs.Prelude.{ℕ, List, [], map, Option, Some, None, ⊤}
+use Rattle.std.specs.Prelude.{ℕ, List, map, Option}
 use Rattle.lua_meaning.specs.Value as meant
 use Rattle.lua_heap.specs.declared.value.Value.{Value}
 use Rattle.lua_heap.specs.Value.{value_view}
 use Rattle.lua_heap.specs.Heap.{store_of, function_at}
-use Rattle.lua_code.specs.Frames.{Callee, runs, built_in, called}
+use Rattle.lua_code.specs.Frames.{Callee, runs, called}
 use Rattle.lua_machine.specs.View.{EngineView, code_of, made_view}
 
 -- a function of a program
@@ -18,15 +18,3 @@ abbrev pub called_at : EngineView → Value → List meant.Value → Option (Cal
 called_at m v args =
     called (map (made_view m.chunks) m.heap.functions) (store_of m.heap)
     (value_view m.heap.texts v) args
-
-abbrev pub IsBuiltIn : Callee → Type 0
-IsBuiltIn (runs code cells) = ⊥
-IsBuiltIn (built_in f) = ⊤
-
-abbrev pub RunsLibrary : Option (Callee × List meant.Value) → Type 0
-RunsLibrary None = ⊥
-RunsLibrary (Some c) = IsBuiltIn c.0
-
--- a call of a value runs a function of the library
-abbrev pub CallsLibrary : EngineView → Value → Type 0
-CallsLibrary m v = RunsLibrary (called_at m v [])

@@ -5,19 +5,20 @@ use Rattle.lua_meaning.specs.Message.{Ask}
 use Rattle.lua_heap.specs.declared.value.Value.{Value}
 use Rattle.lua_heap.specs.declared.value.Value.TheVariants.{Func, Native}
 use Rattle.lua_heap.specs.Value.{value_view}
+use Rattle.lua_heap.specs.Native.{native_view}
 use Rattle.lua_code.specs.State.{Step, waits}
 use Rattle.lua_code.specs.State as s
-use Rattle.lua_code.specs.Frames.{raised, entering, calling}
+use Rattle.lua_code.specs.Frames.{Callee as Target, built_in, raised, entering, calling}
 use Rattle.lua_code.specs.Act.{next, at_line}
 use Rattle.lua_machine.specs.declared.arguments.Behind.{Behind}
 use Rattle.lua_machine.specs.declared.frame.Wants.{Wants}
 use Rattle.lua_machine.specs.declared.invoke.Callee.{Callee}
-use Rattle.lua_machine.specs.declared.invoke.Callee.TheVariants.{Runs, Handles, Library, Nothing}
+use Rattle.lua_machine.specs.declared.invoke.Callee.TheVariants.{Runs, Handles, Library, HandlesLibrary, Nothing}
 use Rattle.lua_machine.specs.declared.status.Status.{Status}
 use Rattle.lua_machine.specs.View.{EngineView, wants_view, registers_of, run_of, frames_of, state_of}
 use Rattle.lua_machine.specs.Does.{site_at, Came}
 use Rattle.lua_machine.specs.Arguments.{args_at}
-use Rattle.lua_machine.specs.Callees.{callee_at, called_at, CallsLibrary}
+use Rattle.lua_machine.specs.Callees.{callee_at, called_at}
 use Rattle.lua_machine.specs.Entering.{HasFunction, free_cells}
 
 abbrev pub IsNoFunction : Value → Type 0
@@ -34,7 +35,11 @@ IsCallee (Handles id) v m =
     HasFunction m id
     × ((args : List meant.Value) →
     called_at m v args ≡ Some (callee_at m id, value_view m.heap.texts v ∷ args))
-IsCallee Library v m = CallsLibrary m v
+IsCallee (Library f) v m =
+    (args : List meant.Value) → called_at m v args ≡ Some (built_in (native_view f), args)
+IsCallee (HandlesLibrary f) v m =
+    (args : List meant.Value) →
+    called_at m v args ≡ Some (built_in (native_view f), value_view m.heap.texts v ∷ args)
 IsCallee Nothing v m = (args : List meant.Value) → called_at m v args ≡ None
 
 -- the frames of a call that the running function makes
@@ -43,17 +48,18 @@ calling_frames wants m =
     waits (next (run_of m)) (wants_view wants) (at_line (run_of m) (site_at m.proto m.pc))
     ∷ frames_of m
 
--- what a call of a function of the program does
-abbrev pub entering_step : Wants → (id first : ℕ) → List meant.Value → List Ask → EngineView → Step
-entering_step wants id first args asks m =
-    entering (raised (calling_frames wants m) (registers_of m)) (callee_at m id) args
-    (calling_frames wants m) first (free_cells m) (registers_of m) (state_of asks m)
+-- what a call of a function does
+abbrev pub entering_step : Wants → Target → (first : ℕ) → List meant.Value → List Ask → EngineView →
+    Step
+entering_step wants f first args asks m =
+    entering (raised (calling_frames wants m) (registers_of m)) f args (calling_frames wants m)
+    first (free_cells m) (registers_of m) (state_of asks m)
 
--- a call of a function of the program came to a status
-abbrev pub EntersAs : Wants → (id first count : ℕ) → Behind → Status → EngineView → EngineView →
-    Type 0
-EntersAs wants id first count behind status old new =
-    Came (λ asks. entering_step wants id first (args_at old first count behind) asks old) ⊥ status
+-- a call of a function came to a status
+abbrev pub EntersAs : Wants → Target → (first count : ℕ) → Behind → Status → EngineView →
+    EngineView → Type 0
+EntersAs wants f first count behind status old new =
+    Came (λ asks. entering_step wants f first (args_at old first count behind) asks old) ⊥ status
     old new
 
 -- what a call of a value does
@@ -67,5 +73,5 @@ calling_step wants v first args asks m =
 abbrev pub CallsAs : Wants → Value → (first count : ℕ) → Behind → Status → EngineView → EngineView →
     Type 0
 CallsAs wants v first count behind status old new =
-    Came (λ asks. calling_step wants v first (args_at old first count behind) asks old)
-    (CallsLibrary old v) status old new
+    Came (λ asks. calling_step wants v first (args_at old first count behind) asks old) ⊥ status
+    old new

@@ -1,23 +1,21 @@
 -- An instruction that the engine does is a step of the definitions' machine.
 use Rattle.std.specs.Prelude.{◌≡◌, ℕ, ◌+◌, ◌<◌, Bool, true, false, List, length, map, take, set, Option, Some, None, slice_get, ⊤}
+use Rattle.lua_meaning.specs.Value as meant
 use Rattle.lua_meaning.specs.Message.{Ask}
 use Rattle.lua_heap.specs.declared.value.Value.{Value}
 use Rattle.lua_heap.specs.Value.{value_view}
 use Rattle.lua_heap.specs.Heap.{IsMade}
 use Rattle.lua_code.specs.Instr as i
 use Rattle.lua_code.specs.declared.instr.Instr.{Instr}
-use Rattle.lua_code.specs.declared.instr.Instr.TheVariants.{Move, Const, GetCell, SetCell, SetCellConst, NewCell, Close, NewTable, SetItem, SetItemConst, SetRest, SetNew, SetNewConst, SetNewNamed, SetNewNamedConst, FirstExtra, AllExtra, Invoke, InvokeAll, Spread, Tick, Skip, SkipIf, SkipUnless, BackIf, BackUnless, ForBegin, ForNext, EachNext, Leave}
 use Rattle.lua_code.specs.declared.instr.Site.{Site}
-use Rattle.lua_code.specs.View.{ProtoView, Inner, inners, site_view, instr_view}
+use Rattle.lua_code.specs.View.{ProtoView, Inner, inners, site_view, instr_view, constant_at}
 use Rattle.lua_code.specs.State.{Step, on, stop, no_ticks, ended}
 use Rattle.lua_code.specs.Frames.{raised}
 use Rattle.lua_code.specs.Act.{act_on}
 use Rattle.lua_machine.specs.declared.status.Status.{Status}
-use Rattle.lua_machine.specs.declared.status.Status.TheVariants.{Goes, NoTick, Raises, Ends, NotYet}
-use Rattle.lua_machine.specs.View.{EngineView, value_at, protos_at, run_of, frames_of, registers_of, state_of, config_of}
-use Rattle.lua_machine.specs.Turns.{numbers_at}
-use Rattle.lua_machine.specs.Callees.{CallsLibrary}
-use Rattle.lua_machine.specs.Ready.{IsReady}
+use Rattle.lua_machine.specs.declared.status.Status.TheVariants.{Goes, NoTick, Serves, Raises, Ends, NotYet}
+use Rattle.lua_machine.specs.View.{EngineView, protos_at, run_of, frames_of, registers_of, state_of, config_of, serving_config, slots_view}
+use Rattle.lua_machine.specs.Ready.{AreFit, IsReady}
 
 -- ---- instructions
 
@@ -66,51 +64,29 @@ DidOr x false old new = HasNoTick x new
 abbrev pub step_as : Status → List Ask → EngineView → Step → Step
 step_as Goes asks m step = on (config_of asks m)
 step_as NoTick asks m step = stop (no_ticks (state_of asks m))
+step_as (Serves f) asks m step = on (serving_config f asks m)
 step_as (Raises v) asks m step =
     raised (frames_of m) (registers_of m) (value_view m.heap.texts v) (state_of asks m)
 step_as Ends asks m step = stop (ended (map (value_view m.heap.texts) m.tail) (state_of asks m))
 step_as NotYet asks m step = step
 
--- an instruction that the engine doesn't do yet; a loop begins only where it has three numbers, and a function of the
--- library isn't called
-abbrev pub IsElsewhere : Instr → EngineView → Type 0
-IsElsewhere (Move to from) m = ⊥
-IsElsewhere (Const to n) m = ⊥
-IsElsewhere (GetCell to cell) m = ⊥
-IsElsewhere (SetCell cell from) m = ⊥
-IsElsewhere (SetCellConst cell n) m = ⊥
-IsElsewhere (NewCell cell from) m = ⊥
-IsElsewhere (Close to n) m = ⊥
-IsElsewhere (NewTable to) m = ⊥
-IsElsewhere (SetItem table number from) m = ⊥
-IsElsewhere (SetItemConst table number n) m = ⊥
-IsElsewhere (SetRest table number) m = ⊥
-IsElsewhere (SetNew table key from) m = ⊥
-IsElsewhere (SetNewConst table key n) m = ⊥
-IsElsewhere (SetNewNamed table name from) m = ⊥
-IsElsewhere (SetNewNamedConst table name n) m = ⊥
-IsElsewhere (FirstExtra to) m = ⊥
-IsElsewhere AllExtra m = ⊥
-IsElsewhere Tick m = ⊥
-IsElsewhere (Skip count) m = ⊥
-IsElsewhere (SkipIf from count) m = ⊥
-IsElsewhere (SkipUnless from count) m = ⊥
-IsElsewhere (BackIf from count) m = ⊥
-IsElsewhere (BackUnless from count) m = ⊥
-IsElsewhere (ForNext at count) m = ⊥
-IsElsewhere (Leave from count tailed) m = ⊥
-IsElsewhere (ForBegin at count) m = numbers_at m at ≡ None
-IsElsewhere (Spread from count tailed) m = ⊥
-IsElsewhere (EachNext at count) m = ⊥
-IsElsewhere (Invoke to at count tailed) m = CallsLibrary m (value_at m.values (m.base + at))
-IsElsewhere (InvokeAll at count tailed) m = CallsLibrary m (value_at m.values (m.base + at))
-IsElsewhere x m = ⊤
+-- an operand of the running function
+abbrev pub slot_of : EngineView → ℕ → meant.Value
+slot_of m n = slots_view m.heap.texts m.values (m.base + n)
 
--- what is kept: the engine is ready for the next instruction; an error is a value of the heap; and where nothing was done
--- there is a cause
+abbrev pub constant_of : EngineView → ℕ → meant.Value
+constant_of m n = constant_at m.proto.constants n
+
+-- an instruction that the engine doesn't do yet: there is none
+abbrev pub IsElsewhere : Instr → EngineView → Type 0
+IsElsewhere x m = ⊥
+
+-- what is kept: the engine is ready for the next instruction, or for a function of the library; an error is a value of the
+-- heap; and where nothing was done there is a cause
 abbrev pub IsKept : (yet : Type 0) → Status → EngineView → EngineView → Type 0
 IsKept yet Goes old new = IsReady new
 IsKept yet NoTick old new = ⊤
+IsKept yet (Serves f) old new = AreFit new
 IsKept yet (Raises v) old new = IsMade new.heap v
 IsKept yet Ends old new = ⊤
 IsKept yet NotYet old new = yet × (new ≡ old)

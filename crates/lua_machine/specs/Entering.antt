@@ -56,6 +56,11 @@ begun_at m id base cell_base =
 abbrev pub free_cells : EngineView → ℕ
 free_cells m = m.cell_base + cells_at m.proto m.pc
 
+-- the running function waits, and one of the library is to run on arguments, with slots and cells from two places on
+abbrev pub called : Wants → (first : ℕ) → (args : List Value) → EngineView → EngineView
+called wants first args m =
+    record (pushed m wants) { args = args; base = first; cell_base = free_cells m }
+
 -- with other slots, cells and extra arguments, the running function waits and another one begins
 abbrev pub entered : Wants → (id first : ℕ) → (values : List Value) → (cells : List ℕ) →
     (extra : List Value) → EngineView → EngineView

@@ -9,9 +9,12 @@ pub mod Does
 pub mod Numbers
 pub mod Frames
 pub mod Runs
+pub mod Serving
 pub mod Starting
 pub mod Errors
 pub mod Changes
 pub mod Arguments
 pub mod Entering
 pub mod Calling
+pub mod Settled
+pub mod Handling

@@ -1,7 +1,9 @@
 -- Runs of the engine are runs of the definitions' machine.
-use Rattle.std.specs.Prelude.{◌≡◌, ℕ, ◌+◌, List, map, Some, slice_get, ⊤}
+use Rattle.std.specs.Prelude.{◌≡◌, ℕ, ◌+◌, List, map, Some, slice_get, IsFalse, ⊤}
 use Rattle.lua_meaning.specs.Message.{Ask}
 use Rattle.lua_heap.specs.Value.{value_view}
+use Rattle.lua_heap.specs.Native.{native_view}
+use Rattle.lua_lib.specs.Here.{is_here}
 use Rattle.lua_code.specs.declared.instr.Instr.{Instr}
 use Rattle.lua_code.specs.State.{on, ended, failed, no_ticks}
 use Rattle.lua_code.specs.Natives.{Program}
@@ -10,9 +12,9 @@ use Rattle.lua_code.specs.Talks as talks
 use Rattle.lua_code.specs.Talks.{over, next}
 use Rattle.lua_machine.specs.declared.status.Status.{Status}
 use Rattle.lua_machine.specs.declared.status.Pause.{Pause}
-use Rattle.lua_machine.specs.declared.status.Pause.TheVariants.{Ended, Failed, NoTick, NotYet}
-use Rattle.lua_machine.specs.View.{EngineView, state_of, config_of}
-use Rattle.lua_machine.specs.Does.{IsElsewhere, Came}
+use Rattle.lua_machine.specs.declared.status.Pause.TheVariants.{Ended, Failed, NoTick, NotYet, Lacks}
+use Rattle.lua_machine.specs.View.{EngineView, state_of, config_of, serving_config}
+use Rattle.lua_machine.specs.Does.{step_as, IsElsewhere, Came}
 
 -- the next instruction is one that the engine doesn't do yet
 pub record StandsBefore (m : EngineView) : Type 0 where
@@ -30,11 +32,13 @@ Steps status old new =
 abbrev pub going : Program → ℕ → List Ask → EngineView → talks.Pause
 going program n asks m = next program n (on (config_of asks m))
 
--- some steps lead from one engine to another
-abbrev pub Reaches : EngineView → EngineView → Type 0
-Reaches old new =
+-- some steps lead from one engine to where another is at a status
+abbrev pub Reaches : EngineView → Status → EngineView → Type 0
+Reaches old status new =
     (program : Program) (asks : List Ask) →
-    (n : ℕ) × ((more : ℕ) → going program (n + more) asks old ≡ going program more asks new)
+    (n : ℕ) × ((more : ℕ) →
+    going program (n + more) asks old
+    ≡ next program more (step_as status asks new (on (config_of asks new))))
 
 -- where it stands still when the definitions' machine does
 abbrev pub pause_as : Pause → Program → (more : ℕ) → List Ask → EngineView → talks.Pause
@@ -44,14 +48,16 @@ pause_as (Failed v) program more asks m =
     over (failed (value_view m.heap.texts v) (state_of asks m))
 pause_as NoTick program more asks m = over (no_ticks (state_of asks m))
 pause_as NotYet program more asks m = going program more asks m
+pause_as (Lacks f) program more asks m = next program more (on (serving_config f asks m))
 
 -- a run is over, or there is a cause
 abbrev pub StandsAt : Pause → EngineView → Type 0
 StandsAt NotYet m = StandsBefore m
+StandsAt (Lacks f) m = IsFalse (is_here (native_view f))
 StandsAt pause m = ⊤
 
--- The run comes to where the definitions' machine does after some steps; and where an instruction can't be done yet, it
--- has come to that instruction.
+-- The run comes to where the definitions' machine does after some steps; and where an instruction can't be done yet, or a
+-- function of the library isn't there yet, it has come to that.
 pub record Runs (pause : Pause) (old new : EngineView) : Type 0 where
   pub comes :
       (program : Program) (asks : List Ask) →

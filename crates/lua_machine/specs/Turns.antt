@@ -1,11 +1,13 @@
 -- Turns of a numeric loop.
-use Rattle.std.specs.Prelude.{◌≡◌, ℕ, ◌+◌, ℤ, Bool, true, false, List, length, Option, Some, None, ◌⊎◌}
+use Rattle.std.specs.Prelude.{◌≡◌, ℕ, ◌+◌, ℤ, Bool, true, false, List, length, set, Option, Some, None, Result, Ok, Err, codes, ◌⊎◌}
+use Rattle.lua_tree.specs.Tree.{Bytes}
+use Rattle.lua_meaning.specs.Text.{as_number}
 use Rattle.lua_meaning.specs.Message.{Ask}
 use Rattle.lua_heap.specs.declared.value.Value.{Value}
 use Rattle.lua_heap.specs.declared.value.Value.TheVariants.{Num}
 use Rattle.lua_code.specs.State.{Step, on, stop, no_ticks}
 use Rattle.lua_code.specs.Act.{turns}
-use Rattle.lua_machine.specs.View.{EngineView, value_at, run_of, frames_of, registers_of, state_of, config_of}
+use Rattle.lua_machine.specs.View.{EngineView, value_at, slots_view, run_of, frames_of, registers_of, state_of, config_of}
 
 -- three numbers
 abbrev pub three_numbers : Value → Value → Value → Option (ℤ × ℤ × ℤ)
@@ -17,6 +19,30 @@ abbrev pub numbers_at : EngineView → ℕ → Option (ℤ × ℤ × ℤ)
 numbers_at m at =
     three_numbers (value_at m.values (m.base + at)) (value_at m.values (m.base + at + 1))
     (value_at m.values (m.base + at + 2))
+
+-- what three values are as numbers, or what is said of the first one that isn't one
+abbrev pub three_read : (number limit step : Option ℤ) → Result (ℤ × ℤ × ℤ) Bytes
+three_read None limit step = Err (codes "'for' initial value must be a number")
+three_read (Some n) None step = Err (codes "'for' limit must be a number")
+three_read (Some n) (Some m) None = Err (codes "'for' step must be a number")
+three_read (Some n) (Some m) (Some k) = Ok (n, m, k)
+
+abbrev pub slot_number : EngineView → ℕ → Option ℤ
+slot_number m n = as_number (slots_view m.heap.texts m.values n)
+
+-- so are those in the first three slots of a loop
+abbrev pub loop_numbers : EngineView → ℕ → Result (ℤ × ℤ × ℤ) Bytes
+loop_numbers m at =
+    three_read (slot_number m (m.base + at)) (slot_number m (m.base + at + 1))
+    (slot_number m (m.base + at + 2))
+
+-- these slots get numbers
+abbrev pub with_numbers : EngineView → ℕ → (n m k : ℤ) → EngineView
+with_numbers x at n m k = record x {
+  values =
+      set (set (set x.values (x.base + at) (Num n)) (x.base + at + 1) (Num m)) (x.base + at + 2)
+      (Num k);
+}
 
 -- what a turn does
 abbrev pub turn_of : (at body exit : ℕ) → (n m k : ℤ) → List Ask → EngineView → Step

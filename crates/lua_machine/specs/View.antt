@@ -10,11 +10,13 @@ use Rattle.lua_heap.specs.declared.value.Value.{Value}
 use Rattle.lua_heap.specs.declared.value.Value.TheVariants.{Nil}
 use Rattle.lua_heap.specs.Value.{value_view}
 use Rattle.lua_heap.specs.Heap.{HeapView, store_of}
+use Rattle.lua_heap.specs.declared.native.Native.{Native}
+use Rattle.lua_heap.specs.Native.{native_view}
 use Rattle.lua_code.specs.Instr as i
 use Rattle.lua_code.specs.declared.instr.Site.{Site}
 use Rattle.lua_code.specs.View.{ProtoView, code_at}
 use Rattle.lua_code.specs.State as s
-use Rattle.lua_code.specs.State.{Registers, Made, State, Running, Config, waits, lua}
+use Rattle.lua_code.specs.State.{Registers, Made, State, Running, Config, waits, lua, library}
 use Rattle.lua_operators.specs.declared.events.Events.{Events}
 use Rattle.lua_machine.specs.declared.frame.Wants.{Wants}
 use Rattle.lua_machine.specs.declared.frame.Wants.TheVariants.{ToSlot, TruthTo, UntruthTo, ToTail, Nothing}
@@ -185,3 +187,13 @@ config_in texts functions store asks m =
 
 abbrev pub config_of : List Ask → EngineView → Config
 config_of asks m = config_in m.heap.texts m.heap.functions (store_of m.heap) asks m
+
+-- a function of the library runs, on the arguments that were put together
+abbrev pub serving_config : Native → List Ask → EngineView → Config
+serving_config f asks m =
+    record {
+      active = library (native_view f) (map (value_view m.heap.texts) m.args) m.base m.cell_base;
+      frames = frames_of m;
+      registers = registers_of m;
+      state = state_of asks m;
+    }

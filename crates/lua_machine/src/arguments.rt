@@ -147,6 +147,35 @@ impl<'a> Engine<'a> {
         Ok(())
     }
 
+    // The arguments are put together.
+    #[inline]
+    pub(crate) fn put_args(
+        &mut self,
+        first: usize,
+        count: usize,
+        behind: Behind,
+    ) -> Result<(), Memory>
+        requires slots { first + count ≤ length self.old.values }
+        ensures { OnOk result (self.new ≡ record self.old {
+          args = given self.old first count behind;
+        }) }
+    {
+        let _values = &self.values;
+        let end = first + count;
+        if let Behind::Args = behind {
+            let mut all = Vec::from_slice(self.alloc, &self.values[first..end])?;
+            all.extend_from_slice(self.args.as_slice())?;
+            self.args = all;
+            return Ok(());
+        }
+        self.args.clear();
+        self.args.extend_from_slice(&self.values[first..end])?;
+        if let Behind::Tail = behind {
+            self.args.extend_from_slice(self.tail.as_slice())?;
+        }
+        Ok(())
+    }
+
     // A value comes before the arguments, which are put together.
     #[inline(never)]
     pub(crate) fn put_before(

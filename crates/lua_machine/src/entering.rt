@@ -3,8 +3,8 @@
 ghost use Rattle.std.specs.Prelude.{◌≡◌, ◌+◌, ◌<◌, ◌≤◌, length, OnOk};
 ghost use Rattle.lua_heap.specs.Heap.{function_at};
 ghost use Rattle.lua_machine.specs.View.{proto_at};
-ghost use Rattle.lua_machine.specs.Arguments.{all_put};
-ghost use Rattle.lua_machine.specs.Entering.{HasGrown, HasFunction, CanCall, begun_at, HasEntered};
+ghost use Rattle.lua_machine.specs.Arguments.{given, all_put};
+ghost use Rattle.lua_machine.specs.Entering.{HasGrown, HasFunction, CanCall, begun_at, called, HasEntered};
 
 use crate::arguments::Behind;
 use crate::engine::Engine;
@@ -25,7 +25,7 @@ impl<'a> Engine<'a> {
     }
 
     // There are so many slots from a place on.
-    fn make_room(&mut self, first: usize, size: usize) -> Result<(), Memory>
+    pub(crate) fn make_room(&mut self, first: usize, size: usize) -> Result<(), Memory>
         ensures { OnOk result (HasGrown (first + size) self.old self.new) }
     {
         match first.checked_add(size) {
@@ -96,6 +96,26 @@ impl<'a> Engine<'a> {
         self.fill_slots(first + count, params.saturating_sub(count), behind);
         self.copy_cells(cell_base, id)?;
         self.begin_at(id, first, cell_base);
+        Ok(())
+    }
+
+    // The running function waits, and one of the library is to run on arguments.
+    pub(crate) fn enter_library(
+        &mut self,
+        wants: Wants,
+        first: usize,
+        count: usize,
+        behind: Behind,
+    ) -> Result<(), Memory>
+        requires ready { CanCall wants first count self.old }
+        ensures { OnOk result (self.new
+            ≡ called wants first (given self.old first count behind) self.old) }
+    {
+        let cell_base = self.cell_base + self.proto.cells(self.pc);
+        self.put_args(first, count, behind)?;
+        self.push(wants)?;
+        self.base = first;
+        self.cell_base = cell_base;
         Ok(())
     }
 }

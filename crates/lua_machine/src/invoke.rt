@@ -5,10 +5,13 @@ ghost use Rattle.lua_tree.specs.Tree.{Bytes};
 ghost use Rattle.lua_meaning.specs.Fault.{call_text};
 ghost use Rattle.lua_heap.specs.Value.{value_view};
 ghost use Rattle.lua_heap.specs.Heap.{IsMade};
+ghost use Rattle.lua_heap.specs.Native.{native_view};
 ghost use Rattle.lua_code.specs.declared.instr.Instr.TheVariants.{Invoke, InvokeAll};
+ghost use Rattle.lua_code.specs.Frames.{built_in};
 ghost use Rattle.lua_machine.specs.Ready.{IsReady, IsReadyFor};
 ghost use Rattle.lua_machine.specs.Does.{Takes};
 ghost use Rattle.lua_machine.specs.Errors.{Raised};
+ghost use Rattle.lua_machine.specs.Callees.{callee_at};
 ghost use Rattle.lua_machine.specs.Entering.{HasFunction, CanCall};
 ghost use Rattle.lua_machine.specs.Calling.{IsNoFunction, IsCallee, EntersAs, CallsAs};
 
@@ -17,7 +20,7 @@ use crate::engine::Engine;
 use crate::frame::Wants;
 use crate::status::Status;
 use love_base::Memory;
-use lua_heap::{FuncId, Value};
+use lua_heap::{FuncId, Native, Value};
 use lua_operators::{Event, TypeName};
 use std::alloc::Global;
 
@@ -28,8 +31,9 @@ pub(crate) enum Callee {
     Runs(FuncId),
     // The same, on the value and the arguments.
     Handles(FuncId),
-    // A function of the library.
-    Library,
+    // A function of the library, in the same two ways.
+    Library(Native),
+    HandlesLibrary(Native),
     // It can't be called.
     Nothing,
 }
@@ -58,7 +62,7 @@ impl<'a> Engine<'a> {
     {
         match *value {
             Value::Func(id) => Callee::Runs(id),
-            Value::Native(_) => Callee::Library,
+            Value::Native(native) => Callee::Library(native),
             _ => self.handling_callee(value),
         }
     }
@@ -73,7 +77,7 @@ impl<'a> Engine<'a> {
     {
         match self.events.handler(&self.heap, value, Event::Call) {
             Value::Func(id) => Callee::Handles(id),
-            Value::Native(_) => Callee::Library,
+            Value::Native(native) => Callee::HandlesLibrary(native),
             _ => Callee::Nothing,
         }
     }
@@ -90,7 +94,8 @@ impl<'a> Engine<'a> {
     ) -> Result<Status, Memory>
         requires function { HasFunction self.old id }
         requires ready { CanCall wants first count self.old }
-        ensures { IfOk result (λ status. EntersAs wants id first count behind status self.old self.new) }
+        ensures { IfOk result (λ status. EntersAs wants (callee_at self.old id) first count behind
+            status self.old self.new) }
     {
         if self.ticks == 0 {
             return Ok(Status::NoTick);
@@ -102,6 +107,32 @@ impl<'a> Engine<'a> {
         }
         self.enter(wants, id, first, count, behind)?;
         Ok(Status::Goes)
+    }
+
+    // Calls a function of the library, which takes its tick and counts as active too.
+    #[inline(never)]
+    fn call_library(
+        &mut self,
+        wants: Wants,
+        native: Native,
+        first: usize,
+        count: usize,
+        behind: Behind,
+    ) -> Result<Status, Memory>
+        requires ready { CanCall wants first count self.old }
+        ensures { IfOk result (λ status. EntersAs wants (built_in (native_view native)) first count
+            behind status self.old self.new) }
+    {
+        if self.ticks == 0 {
+            return Ok(Status::NoTick);
+        }
+        self.ticks -= 1;
+        if self.frames.len() >= MOST_CALLS {
+            let value = self.error(b"stack overflow")?;
+            return Ok(Status::Raises(value));
+        }
+        self.enter_library(wants, first, count, behind)?;
+        Ok(Status::Serves(native))
     }
 
     // The error of a value that can't be called.
@@ -136,7 +167,11 @@ impl<'a> Engine<'a> {
                 self.put_before(value, first, count, behind)?;
                 self.call_function(wants, id, first, 0, Behind::Args)
             }
-            Callee::Library => Ok(Status::NotYet),
+            Callee::Library(native) => self.call_library(wants, native, first, count, behind),
+            Callee::HandlesLibrary(native) => {
+                self.put_before(value, first, count, behind)?;
+                self.call_library(wants, native, first, 0, Behind::Args)
+            }
             Callee::Nothing => {
                 let error = self.call_error(&value)?;
                 Ok(Status::Raises(error))

@@ -111,7 +111,12 @@ impl<'a> Engine<'a> {
     }
 
     // A table gets a field, whose key mustn't be nil.
-    fn put_raw(&mut self, id: TableId, key: Value, value: Value) -> Result<Status, Memory>
+    pub(crate) fn put_raw(
+        &mut self,
+        id: TableId,
+        key: Value,
+        value: Value,
+    ) -> Result<Status, Memory>
         requires ready { IsReady self.old }
         requires pc { self.old.pc + 1 < 2 ^ 32 }
         requires table { id < length self.old.heap.tables }

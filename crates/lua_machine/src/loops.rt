@@ -1,6 +1,6 @@
 //! Numeric loops.
 
-ghost use Rattle.std.specs.Prelude.{◌≡◌, ◌+◌, ◌-◌, ◌<◌, ◌≤◌, ◌^◌, Some};
+ghost use Rattle.std.specs.Prelude.{◌≡◌, ◌+◌, ◌-◌, ◌<◌, ◌≤◌, ◌^◌, Some, Ok, Err, IfOk, IfErr};
 ghost use Rattle.std.specs.Bool.{OnTrue, OnFalse};
 ghost use Rattle.lua_meaning.specs.Running.{is_counting};
 ghost use Rattle.lua_heap.specs.declared.value.Value.TheVariants.{Num as Number};
@@ -9,11 +9,13 @@ ghost use Rattle.lua_code.specs.declared.instr.Instr.TheVariants.{ForBegin, ForN
 ghost use Rattle.lua_machine.specs.View.{value_at};
 ghost use Rattle.lua_machine.specs.Ready.{IsReadyFor};
 ghost use Rattle.lua_machine.specs.Does.{Takes, HasSlot};
-ghost use Rattle.lua_machine.specs.Turns.{TurnedOr, HasTurned, numbers_at};
+ghost use Rattle.lua_machine.specs.Turns.{TurnedOr, HasTurned, loop_numbers, numbers_at, with_numbers};
 
 use crate::engine::Engine;
 use crate::status::Status;
+use love_base::Memory;
 use lua_heap::Value;
+use lua_lib::call::arguments::as_number;
 use lua_value::Num;
 
 // Whether a loop has a turn for a number.
@@ -78,20 +80,77 @@ impl<'a> Engine<'a> {
 
     // The numbers of a loop are tested, and its first turn begins or is jumped over.
     #[inline]
-    pub(crate) fn for_begin(&mut self, at: u32, count: u32) -> Status
+    pub(crate) fn for_begin(&mut self, at: u32, count: u32) -> Result<Status, Memory>
         requires ready { IsReadyFor (ForBegin at count) self.old }
-        ensures { Takes (ForBegin at count) result self.old self.new }
+        ensures { IfOk result (λ status. Takes (ForBegin at count) status self.old self.new) }
     {
         match self.three_numbers(at) {
-            Some(numbers) => {
-                let body = self.pc + 1;
-                let exit = body + count as usize;
-                match self.turn(at, numbers, body, exit) {
-                    true => Status::Goes,
-                    false => Status::NoTick,
-                }
+            Some(numbers) => Ok(self.begin_turn(at, count, numbers)),
+            None => self.begin_slowly(at, count),
+        }
+    }
+
+    // The same, where its slots hold numbers.
+    #[inline]
+    fn begin_turn(&mut self, at: u32, count: u32, numbers: (Num, Num, Num)) -> Status
+        requires ready { IsReadyFor (ForBegin at count) self.old }
+        requires numbers { numbers_at self.old at ≡ Some numbers }
+        ensures { Takes (ForBegin at count) result self.old self.new }
+    {
+        let body = self.pc + 1;
+        let exit = body + count as usize;
+        match self.turn(at, numbers, body, exit) {
+            true => Status::Goes,
+            false => Status::NoTick,
+        }
+    }
+
+    // What a loop's first three slots hold as numbers, where strings are read; or what is said of the
+    // first one that isn't one.
+    fn read_numbers(&self, at: u32) -> Result<(Num, Num, Num), &'static [u8]>
+        requires slots { HasSlot self.now (at + 3) }
+        ensures read { IfOk result (λ numbers. loop_numbers self.now at ≡ Ok numbers) }
+        ensures refused { IfErr result (λ text. loop_numbers self.now at ≡ Err text.now) }
+    {
+        let first = self.base + at as usize;
+        let Some(number) = as_number(&self.heap, &self.values[first]) else {
+            return Err(b"'for' initial value must be a number");
+        };
+        let Some(limit) = as_number(&self.heap, &self.values[first + 1]) else {
+            return Err(b"'for' limit must be a number");
+        };
+        let Some(step) = as_number(&self.heap, &self.values[first + 2]) else {
+            return Err(b"'for' step must be a number");
+        };
+        Ok((number, limit, step))
+    }
+
+    // These slots get numbers.
+    fn put_numbers(&mut self, at: u32, number: Num, limit: Num, step: Num)
+        requires slots { HasSlot self.old (at + 3) }
+        ensures { self.new ≡ with_numbers self.old at number limit step }
+    {
+        let first = self.base + at as usize;
+        self.values[first] = Value::Num(number);
+        self.values[first + 1] = Value::Num(limit);
+        self.values[first + 2] = Value::Num(step);
+    }
+
+    // A loop begins whose slots don't all hold numbers.
+    #[inline(never)]
+    fn begin_slowly(&mut self, at: u32, count: u32) -> Result<Status, Memory>
+        requires ready { IsReadyFor (ForBegin at count) self.old }
+        ensures { IfOk result (λ status. Takes (ForBegin at count) status self.old self.new) }
+    {
+        match self.read_numbers(at) {
+            Ok(numbers) => {
+                self.put_numbers(at, numbers.0, numbers.1, numbers.2);
+                Ok(self.begin_turn(at, count, numbers))
             }
-            None => Status::NotYet,
+            Err(text) => {
+                let error = self.error(text)?;
+                Ok(Status::Raises(error))
+            }
         }
     }
 

@@ -1,13 +1,14 @@
 //! Results, and the end of a function.
 
-ghost use Rattle.std.specs.Prelude.{◌≡◌, ◌+◌, ◌<◌, ◌≤◌, ◌^◌, length, OnOk, IfOk};
+ghost use Rattle.std.specs.Prelude.{◌≡◌, ◌+◌, ◌<◌, ◌≤◌, ◌^◌, length, map, OnOk, IfOk};
 ghost use Rattle.lua_meaning.specs.Value.{first as first_of};
 ghost use Rattle.lua_heap.specs.Heap.{IsMade};
 ghost use Rattle.lua_heap.specs.Value.{value_view};
 ghost use Rattle.lua_code.specs.declared.instr.Instr.TheVariants.{Leave};
 ghost use Rattle.lua_machine.specs.Results.{held_at, results_at, received_values, truth, WantsOne};
-ghost use Rattle.lua_machine.specs.Ready.{WantsFit, IsReadyFor};
+ghost use Rattle.lua_machine.specs.Ready.{WantsFit, AreFit, IsReadyFor};
 ghost use Rattle.lua_machine.specs.Does.{Takes};
+ghost use Rattle.lua_machine.specs.Serving.{Delivers};
 
 use crate::engine::Engine;
 use crate::frame::Wants;
@@ -95,6 +96,50 @@ impl<'a> Engine<'a> {
                     return Ok(Status::Goes);
                 }
                 let value = self.first_of(first, count, tailed);
+                self.receive(frame.wants, value);
+                Ok(Status::Goes)
+            }
+        }
+    }
+
+    // The first of the results that were put together as arguments are.
+    fn first_arg(&self) -> Value
+        ensures value { value_view self.now.heap.texts result
+            ≡ first_of (map (value_view self.now.heap.texts) self.now.args) }
+        ensures made { IsMade self.now.heap result }
+    {
+        match self.args.get(0) {
+            Some(value) => *value,
+            None => Value::Nil,
+        }
+    }
+
+    // The tail gets all of them.
+    fn keep_args(&mut self) -> Result<(), Memory>
+        ensures { OnOk result (self.new ≡ record self.old { tail = self.old.args }) }
+    {
+        self.tail.clear();
+        self.tail.extend_from_slice(self.args.as_slice())?;
+        Ok(())
+    }
+
+    // They go to the frame on top.
+    pub(crate) fn deliver(&mut self) -> Result<Status, Memory>
+        requires fit { AreFit self.old }
+        ensures { IfOk result (λ status. Delivers status self.old self.new) }
+    {
+        let _frames = &self.frames;
+        match self.pop() {
+            None => {
+                self.keep_args()?;
+                Ok(Status::Ends)
+            }
+            Some(frame) => {
+                if let Wants::ToTail = frame.wants {
+                    self.keep_args()?;
+                    return Ok(Status::Goes);
+                }
+                let value = self.first_arg();
                 self.receive(frame.wants, value);
                 Ok(Status::Goes)
             }

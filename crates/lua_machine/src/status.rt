@@ -1,6 +1,6 @@
 //! What an instruction comes to.
 
-use lua_heap::Value;
+use lua_heap::{Native, Value};
 
 // What an instruction came to.
 #[derive(Debug, Drop)]
@@ -9,6 +9,8 @@ pub(crate) enum Status {
     Goes,
     // It takes a tick, and none is left.
     NoTick,
+    // A function of the library was called, on the arguments that were put together.
+    Serves(Native),
     // An error, which goes to the frames that wait.
     Raises(Value),
     // The last function ended. Its results are in the tail.
@@ -28,4 +30,6 @@ pub(crate) enum Pause {
     NoTick,
     // The next instruction can't be done yet.
     NotYet,
+    // The function of the library that was called isn't there yet.
+    Lacks(Native),
 }

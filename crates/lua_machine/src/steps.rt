@@ -69,7 +69,7 @@ impl<'a> Engine<'a> {
             Instr::Tick => Ok(self.tick()),
             Instr::BackIf { from, count } => Ok(self.back_if(from, count)),
             Instr::BackUnless { from, count } => Ok(self.back_unless(from, count)),
-            Instr::ForBegin { at, count } => Ok(self.for_begin(at, count)),
+            Instr::ForBegin { at, count } => self.for_begin(at, count),
             Instr::ForNext { at, count } => Ok(self.for_next(at, count)),
             Instr::NewTable { to } => self.new_table(to),
             Instr::SetItem {
@@ -116,18 +116,36 @@ impl<'a> Engine<'a> {
                 count,
                 tailed,
             } => self.leave(from, count, tailed),
-            Instr::Unary { .. }
-            | Instr::Binary { .. }
-            | Instr::BinaryConst { .. }
-            | Instr::GetField { .. }
-            | Instr::GetNamed { .. }
-            | Instr::GetGlobal { .. }
-            | Instr::SetField { .. }
-            | Instr::SetFieldConst { .. }
-            | Instr::SetNamed { .. }
-            | Instr::SetNamedConst { .. }
-            | Instr::SetGlobal { .. }
-            | Instr::SetGlobalConst { .. } => Ok(Status::NotYet),
+            Instr::Unary { op, to, from } => self.unary(op, to, from),
+            Instr::Binary {
+                op,
+                to,
+                left,
+                right,
+            } => self.binary(op, to, left, right),
+            Instr::BinaryConst {
+                op,
+                to,
+                left,
+                constant,
+            } => self.binary_const(op, to, left, constant),
+            Instr::GetField { to, base, key } => self.get_field(to, base, key),
+            Instr::GetNamed { to, base, name } => self.get_named(to, base, name),
+            Instr::GetGlobal { to, name } => self.get_global(to, name),
+            Instr::SetField { base, key, from } => self.set_field(base, key, from),
+            Instr::SetFieldConst {
+                base,
+                key,
+                constant,
+            } => self.set_field_const(base, key, constant),
+            Instr::SetNamed { base, name, from } => self.set_named(base, name, from),
+            Instr::SetNamedConst {
+                base,
+                name,
+                constant,
+            } => self.set_named_const(base, name, constant),
+            Instr::SetGlobal { name, from } => self.set_global(name, from),
+            Instr::SetGlobalConst { name, constant } => self.set_global_const(name, constant),
         }
     }
 
@@ -146,14 +164,21 @@ impl<'a> Engine<'a> {
         requires ready { IsReady self.old }
         ensures { IfOk result (λ pause. Runs pause self.old self.new) }
     {
+        let mut status = Status::Goes;
         loop {
-            match self.step()? {
-                Status::Goes => {}
+            status = match status {
+                Status::Goes => self.step()?,
+                Status::Serves(native) => {
+                    let Some(next) = self.serve(native)? else {
+                        return Ok(Pause::Lacks(native));
+                    };
+                    next
+                }
                 Status::NoTick => return Ok(Pause::NoTick),
                 Status::Raises(value) => return Ok(Pause::Failed(value)),
                 Status::Ends => return Ok(Pause::Ended),
                 Status::NotYet => return Ok(Pause::NotYet),
-            }
+            };
         }
     }
 }

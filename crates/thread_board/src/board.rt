@@ -1,4 +1,4 @@
-ghost use Rattle.std.specs.Prelude.{◌≡◌, ℕ, ◌<◌, ◌↔◌, [], is_some, IsTrue, IfOk, All};
+ghost use Rattle.std.specs.Prelude.{◌≡◌, ℕ, ◌<◌, ◌^◌, ◌↔◌, [], is_some, IsTrue, IfOk, All, length};
 ghost use Rattle.std.specs.Option.{option_copied};
 
 use crate::place::{Started, Thread, started_at, thread_at};
@@ -180,6 +180,7 @@ impl Board {
         ensures lawful { IsLawful self.now.workers self.now.history }
         ensures begun { All (λ e. HasBegun (register self.now.history) e.by.state)
             self.now.history }
+        ensures few { length self.now.history < 2 ^ 16 }
     {
         self.history.as_slice()
     }

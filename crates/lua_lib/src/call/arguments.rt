@@ -3,6 +3,7 @@
 ghost use Rattle.std.specs.Prelude.{◌≡◌, ◌<◌, [], List, map, IfOk, MatchOption, None, Some, length, pos};
 ghost use Rattle.lua_tree.specs.Tree.{Bytes};
 ghost use Rattle.lua_meaning.specs.Arguments as meaning;
+ghost use Rattle.lua_meaning.specs.LoveArguments as love;
 ghost use Rattle.lua_meaning.specs.Text.{as_number, as_text};
 ghost use Rattle.lua_heap.specs.Value.{value_view};
 ghost use Rattle.lua_meaning.specs.Store.{border};
@@ -14,6 +15,7 @@ use crate::basic::read;
 use crate::call::cause::{Cause, Expected};
 use crate::signed::natural;
 use itoa::Buffer;
+use love_base::ChannelNo;
 use lua_heap::{DataId, Heap, TableId, Value};
 use lua_value::Num;
 
@@ -166,5 +168,51 @@ pub fn data_argument(heap: &Heap, args: &[Value], n: usize) -> Result<DataId, Ca
     match value {
         Value::Data(id) => Ok(id),
         _ => Err(Cause::Wants(n, Expected::Data, value)),
+    }
+}
+
+/// A Channel.
+pub fn channel_argument(heap: &Heap, args: &[Value], n: usize) -> Result<ChannelNo, Cause>
+    requires { AreMade heap.now args.now }
+    ensures { Comes (λ channel. channel) heap.now
+        (love.channel_argument n (values_of heap.now args.now)) result }
+{
+    let _heap = heap;
+    let value = argument(args, n);
+    match value {
+        Value::Channel(channel) => Ok(channel),
+        _ => Err(Cause::Wants(n, Expected::Channel, value)),
+    }
+}
+
+/// A Thread, by its number.
+pub fn thread_argument(heap: &Heap, args: &[Value], n: usize) -> Result<u32, Cause>
+    requires { AreMade heap.now args.now }
+    ensures { Comes (λ thread. thread) heap.now
+        (love.thread_argument n (values_of heap.now args.now)) result }
+{
+    let _heap = heap;
+    let value = argument(args, n);
+    match value {
+        Value::Thread(thread) => Ok(thread),
+        _ => Err(Cause::Wants(n, Expected::Thread, value)),
+    }
+}
+
+/// A function, of a program or of the library.
+pub fn function_argument(heap: &Heap, args: &[Value], n: usize) -> Result<Value, Cause>
+    requires { AreMade heap.now args.now }
+    ensures taken { Comes (λ _. tt) heap.now
+        (love.function_argument n (values_of heap.now args.now)) result }
+    ensures value { IfOk result (λ value. value_view heap.now.texts value
+        ≡ meaning.argument n (values_of heap.now args.now)) }
+    ensures made { IfOk result (λ value. IsMade heap.now value) }
+{
+    let _heap = heap;
+    let value = argument(args, n);
+    match value {
+        Value::Func(_) => Ok(value),
+        Value::Native(_) => Ok(value),
+        _ => Err(Cause::Wants(n, Expected::Function, value)),
     }
 }

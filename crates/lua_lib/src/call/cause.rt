@@ -21,6 +21,9 @@ pub enum Expected {
     Data,
     FileData,
     Object,
+    Channel,
+    Thread,
+    Function,
 }
 
 impl Expected {
@@ -35,6 +38,9 @@ impl Expected {
             Expected::Data => b"Data",
             Expected::FileData => b"FileData",
             Expected::Object => b"Object",
+            Expected::Channel => b"Channel",
+            Expected::Thread => b"Thread",
+            Expected::Function => b"function",
         }
     }
 }
@@ -57,7 +63,7 @@ pub enum Cause {
 pub enum LibFault {
     /// The function fails.
     Fails(Cause),
-    /// The function isn't one of this crate.
+    /// The function is one of the machine.
     Elsewhere,
 }
 

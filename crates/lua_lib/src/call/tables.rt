@@ -19,7 +19,7 @@ use lua_value::Num;
 use std::alloc::Global;
 
 // The last position of a table.
-const LAST: usize = 99_999_999_999_999;
+pub(crate) const LAST: usize = 99_999_999_999_999;
 
 // The position that a number is, where it is one.
 fn position_of(n: Num) -> Option<usize>

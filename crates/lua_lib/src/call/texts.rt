@@ -242,7 +242,16 @@ fn put_fault(buffer: &mut Vec<u8>, native: Native, fault: Fault) -> Result<(), M
         Fault::NoMetatable => put_improper(buffer, native, 1, b"nil or table expected"),
         Fault::Protected => put(buffer, b"cannot change a protected metatable"),
         Fault::PositionOutOfBounds => put_improper(buffer, native, 1, b"position out of bounds"),
+        Fault::NoOrder => put(buffer, b"'sort' needs all numbers or all strings"),
+        Fault::TakesNoFunction => put(buffer, b"'sort' takes no function"),
         Fault::OutOfBounds(argument) => put_improper(buffer, native, argument, b"out of bounds"),
+        Fault::NotSeconds(argument) => put_improper(
+            buffer,
+            native,
+            argument,
+            b"0 to 1000000 expected",
+        ),
+        Fault::NoStatus(argument) => put_improper(buffer, native, argument, b"0 to 63 expected"),
         Fault::Memory => Ok(()),
     }
 }

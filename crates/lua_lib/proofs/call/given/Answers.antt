@@ -242,6 +242,18 @@ returns-in-TableInsert c =
     let vs = values_of h c.args.args.now in
     called-by _ _ _ _ variant.TableInsert vs _ c.in-TableInsert.is (record { calls = c.nothing.ensures.calls h c.insert.new.heap (library (native_view variant.TableInsert) vs) c.insert.ensures.runs; made = c.nothing.ensures.made c.insert.new.heap; extends = c.insert.ensures.extends; functions = c.insert.ensures.functions })
 
+pub returns-in-TableMaxn : goal.returns-in-TableMaxn
+returns-in-TableMaxn c =
+    let h = c.args.heap.now in
+    let vs = values_of h c.args.args.now in
+    called-by _ _ _ _ variant.TableMaxn vs _ c.in-TableMaxn.is (called-same _ h _ _ (c.number-in-TableMaxn.ensures.calls h h (library (native_view variant.TableMaxn) vs) c.maxn.ensures) (c.number-in-TableMaxn.ensures.made h))
+
+pub returns-in-TableSort : goal.returns-in-TableSort
+returns-in-TableSort c =
+    let h = c.args.heap.now in
+    let vs = values_of h c.args.args.now in
+    called-by _ _ _ _ variant.TableSort vs _ c.in-TableSort.is (record { calls = c.nothing-in-TableSort.ensures.calls h c.sort.new.heap (library (native_view variant.TableSort) vs) c.sort.ensures.runs; made = c.nothing-in-TableSort.ensures.made c.sort.new.heap; extends = c.sort.ensures.extends; functions = c.sort.ensures.functions })
+
 pub returns-in-TableRemove : goal.returns-in-TableRemove
 returns-in-TableRemove c =
     let h = c.args.heap.now in

@@ -6,7 +6,7 @@ use Rattle.lua_meaning.specs.Store.{contents_at, add_contents}
 use Rattle.lua_meaning.specs.Arguments.{Lib, answers, look, number_or, ◌>>=◌}
 use Rattle.lua_meaning.specs.Data.{part_of, size_behind}
 use Rattle.lua_heap.specs.Heap.{store_of}
-use Rattle.lua_lib.specs.Causes.{values_of, error_of, Comes}
+use Rattle.lua_lib.specs.Causes.{values_of, error_of}
 use Rattle.lua_lib.specs.Faults.{RaisesBy}
 use Rattle.lua_lib.specs.Outcome.{Gives}
 use Rattle.lua_lib.proofs.Binding.{raises-first, raises-then}

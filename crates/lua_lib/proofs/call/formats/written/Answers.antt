@@ -1,4 +1,4 @@
-use Rattle.std.proofs.Common.{◌≡◌, List, [], ℕ, ◌∷◌, ◌+◌, ◌≤◌, length, arith, ap, sym, subst, ◌∙◌}
+use Rattle.std.proofs.Common.{◌≡◌, List, [], ℕ, ◌∷◌, length, arith, ap, sym, subst, ◌∙◌}
 use Rattle.std.proofs.lemmas.Result.{err_from_is_err_and}
 use Rattle.lua_meaning.specs.Format.{text_from}
 use Rattle.lua_lib.specs.Causes.{values_of, error_of}

@@ -1,4 +1,4 @@
-use Rattle.std.proofs.Common.{ℕ, ◌+◌, [], length, map, arith, ap, sym, ◌∙◌}
+use Rattle.std.proofs.Common.{ℕ, ◌+◌, length, map, arith, ap, sym, ◌∙◌}
 use Rattle.lua_heap.specs.Value.{value_view}
 use Rattle.lua_heap.specs.Heap.{store_of}
 use Rattle.lua_lib.specs.Causes.{values_of}

@@ -1,4 +1,4 @@
-use Rattle.std.proofs.Common.{ℤ, pos, ◌+◌, ◌-◌, map, ap, sym, ◌∙◌}
+use Rattle.std.proofs.Common.{ℤ, ◌+◌, ◌-◌, map, ap, sym, ◌∙◌}
 use Rattle.lua_meaning.specs.Basic.{items_from}
 use Rattle.lua_heap.specs.Value.{value_view}
 use Rattle.lua_heap.specs.Heap.{store_of}

@@ -1,4 +1,4 @@
-use Rattle.std.proofs.Common.{ℤ, ap, sym, ◌∙◌}
+use Rattle.std.proofs.Common.{ap, sym, ◌∙◌}
 use Rattle.lua_meaning.specs.Value.{num}
 use Rattle.lua_lib.proofs.Moved.{position_key-is}
 use Rattle.lua_lib.proofs.call.items.position.Goals as goal

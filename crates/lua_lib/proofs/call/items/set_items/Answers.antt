@@ -1,6 +1,5 @@
-use Rattle.std.proofs.Common.{◌≤◌, ◌<◌, length, arith, ap, refl, sym, ◌∙◌}
+use Rattle.std.proofs.Common.{arith, ap, refl, sym, ◌∙◌}
 use Rattle.std.proofs.lemmas.List.{length-map}
-use Rattle.std.proofs.lemmas.Result.{err_from_is_err_and}
 use Rattle.lua_heap.specs.Value.{value_view}
 use Rattle.lua_heap.specs.Heap.{store_of}
 use Rattle.lua_heap.proofs.Callers.{Extends-same, Extends-trans, IsMade-later}

@@ -1,4 +1,4 @@
-use Rattle.std.proofs.Common.{◌<◌, ◌≤◌, arith, ap, refl, sym, ◌∙◌}
+use Rattle.std.proofs.Common.{arith, ◌∙◌}
 use Rattle.std.proofs.lemmas.Result.{err_from_is_err_and}
 use Rattle.lua_heap.specs.Heap.{store_of}
 use Rattle.lua_lib.proofs.Joined.{joined-first, joined-next, joined-end, first-refused, next-refused}

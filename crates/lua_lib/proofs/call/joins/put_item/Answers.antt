@@ -1,9 +1,4 @@
-use Rattle.std.proofs.Common.{◌≡◌, ℕ, ℤ, pos, ◌+ℤ◌, None, Some, Option, ap, refl, sym, ◌∙◌}
-use Rattle.lua_meaning.specs.Value as meant
-use Rattle.lua_meaning.specs.Text.{as_text}
-use Rattle.lua_meaning.specs.Store.{raw_get}
-use Rattle.lua_meaning.specs.Tables.{text_at}
-use Rattle.lua_tree.specs.Tree.{Bytes}
+use Rattle.std.proofs.Common.{pos, ◌+ℤ◌, refl}
 use Rattle.lua_heap.specs.Value.{value_view}
 use Rattle.lua_heap.specs.Heap.{store_of}
 use Rattle.lua_lib.proofs.Joined.{item-text, item-no_text}

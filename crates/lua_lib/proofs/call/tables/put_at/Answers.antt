@@ -1,12 +1,12 @@
-use Rattle.std.proofs.Common.{◌≡◌, ◌≤◌, ◌<◌, ◌+◌, ◌-◌, List, map, drop, arith, ap, sym, ◌∙◌}
+use Rattle.std.proofs.Common.{◌≡◌, ◌≤◌, ◌<◌, ◌-◌, List, map, drop, arith, ap, sym, ◌∙◌}
 use Rattle.std.specs.Prelude.{length}
 use Rattle.lua_meaning.specs.Store.{border}
-use Rattle.lua_meaning.specs.Tables.{items, set_items}
+use Rattle.lua_meaning.specs.Tables.{items}
 use Rattle.lua_heap.specs.declared.value.Value.{Value}
 use Rattle.lua_heap.specs.Value.{value_view}
 use Rattle.lua_heap.specs.Heap.{store_of}
 use Rattle.lua_heap.proofs.Callers.{Extends-trans}
-use Rattle.lua_lib.specs.Causes.{AreMade, values_of}
+use Rattle.lua_lib.specs.Causes.{values_of}
 use Rattle.lua_lib.proofs.Moved.{inserted-behind, inserted-within}
 use Rattle.lua_lib.proofs.Numbered.{AreMade-later}
 use Rattle.lua_lib.proofs.call.tables.put_at.Goals as goal

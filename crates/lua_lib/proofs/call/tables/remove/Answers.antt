@@ -1,4 +1,4 @@
-use Rattle.std.proofs.Common.{ℕ, ℤ, pos, List, refl}
+use Rattle.std.proofs.Common.{ℕ, pos, List, refl}
 use Rattle.std.proofs.lemmas.Result.{err_from_is_err_and}
 use Rattle.lua_meaning.specs.Value.{Value}
 use Rattle.lua_meaning.specs.Store.{border}

@@ -1,10 +1,9 @@
-use Rattle.std.proofs.Common.{◌≡◌, ◌+◌, ◌-◌, ℕ, List, [], ◌∷◌, ◌++◌, map, drop, arith, ap, sym, ◌∙◌}
+use Rattle.std.proofs.Common.{◌≡◌, ◌+◌, ◌-◌, ℕ, List, [], ◌∷◌, ◌++◌, drop, arith, ap, ◌∙◌}
 use Rattle.lua_meaning.specs.Value as meant
 use Rattle.lua_meaning.specs.Store.{raw_get, border}
 use Rattle.lua_meaning.specs.Tables.{items, set_items}
 use Rattle.lua_heap.specs.declared.value.Value.{Value}
 use Rattle.lua_heap.specs.declared.value.Value.TheVariants.{Nil}
-use Rattle.lua_heap.specs.Value.{value_view}
 use Rattle.lua_heap.specs.Heap.{store_of}
 use Rattle.lua_heap.proofs.Callers.{value_view-later, IsMade-later}
 use Rattle.lua_lib.specs.Causes.{values_of}

@@ -1,4 +1,4 @@
-use Rattle.std.proofs.Common.{◌≡◌, ◌<◌, ◌≤◌, pos, [], ◌∷◌, arith, ap, refl, sym, ◌∙◌}
+use Rattle.std.proofs.Common.{◌<◌, ◌≤◌, pos, [], ◌∷◌, arith, ap, refl, sym, ◌∙◌}
 use Rattle.lua_meaning.specs.Store.{border}
 use Rattle.lua_meaning.specs.Arguments.{answers}
 use Rattle.lua_meaning.specs.Tables.{removed}

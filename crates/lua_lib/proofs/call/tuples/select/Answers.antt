@@ -1,8 +1,7 @@
-use Rattle.std.proofs.Common.{◌≡◌, true, false, List, ℤ, pos, length, drop, ap, sym, subst, ◌∙◌}
+use Rattle.std.proofs.Common.{◌≡◌, true, false, List, pos, length, ap, sym, subst, ◌∙◌}
 use Rattle.lua_meaning.specs.Value as meant
 use Rattle.lua_meaning.specs.Arguments.{Lib, argument, answer_one}
 use Rattle.lua_meaning.specs.Basic.{is_count_mark}
-use Rattle.lua_heap.specs.declared.value.Value.{Value}
 use Rattle.lua_lib.specs.Causes.{values_of, Comes}
 use Rattle.lua_lib.specs.Selected.{selected_by}
 use Rattle.lua_lib.proofs.Tuples.{select-count, select-values}

@@ -2,6 +2,7 @@ use Rattle.std.proofs.Common.{◌<◌, ◌≤◌, ◌-◌, length, subst, arith}
 use Rattle.std.specs.Prelude.{codes}
 use Rattle.lua_machine.specs.View.{EngineView}
 use Rattle.lua_machine.specs.Made.{IsEngine}
+use Rattle.lua_machine.specs.Callees.{callee_at}
 use Rattle.lua_machine.specs.Errors.{Raised}
 use Rattle.lua_machine.specs.Entering.{HasEntered}
 use Rattle.lua_machine.proofs.Called.{enters, enters_too_deep}
@@ -15,7 +16,7 @@ returns-then-len-ge-MOST_CALLS c =
     let left : 0 < c.self.inside.ticks = omega (arith, c.if-self-eq0.false) in
     let deep : 4096 ≤ c.len.result = c.if-len-ge-MOST_CALLS.true in
     let many : 4096 ≤ length c.self.inside.frames.items = omega (arith, deep, c.len.ensures) in
-    enters_too_deep m c.args.wants c.args.id c.args.first c.args.count c.args.behind new v
+    enters_too_deep m c.args.wants (callee_at m c.args.id) c.args.first c.args.count c.args.behind new v
     (subst (λ (y : EngineView). 0 < y.ticks) c.self.view_is left)
     (subst (λ (y : EngineView). 4096 ≤ length y.frames) c.self.view_is many)
     (subst (λ (y : EngineView). Raised (codes "stack overflow") v (record y { ticks = y.ticks - 1 }) new) c.self.view_is c.in_ok-value.ensures)
@@ -28,7 +29,7 @@ returns c =
     let left : 0 < c.self.inside.ticks = omega (arith, c.if-self-eq0.false) in
     let room : c.len.result < 4096 = omega (arith, c.if-len-ge-MOST_CALLS.false) in
     let few : length c.self.inside.frames.items < 4096 = omega (arith, room, c.len.ensures) in
-    enters m c.args.wants c.args.id c.args.first c.args.count c.args.behind new is c.requires.ready c.requires.function
+    enters m c.args.wants c.args.first c.args.count c.args.behind is c.requires.ready c.args.id new c.requires.function
     (subst (λ (y : EngineView). 0 < y.ticks) c.self.view_is left)
     (subst (λ (y : EngineView). length y.frames < 4096) c.self.view_is few)
     (subst (λ (y : EngineView). HasEntered c.args.wants c.args.id c.args.first c.args.count c.args.behind (record y { ticks = y.ticks - 1 }) new) c.self.view_is c.in_ok-enter.ensures)

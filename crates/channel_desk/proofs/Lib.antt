@@ -1,0 +1,15 @@
+pub mod Objects
+pub mod Coming
+pub mod Later
+pub mod Waiting
+pub mod Holds
+pub mod Sectioned
+pub mod Acts
+pub mod Moves
+pub mod Counts
+pub mod Glances
+pub mod Cuts
+pub mod Opened
+pub mod Ahead
+pub mod BoardNumbers
+pub mod BoardComing

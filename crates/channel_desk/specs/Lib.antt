@@ -1,0 +1,11 @@
+pub mod Shared
+pub mod Same
+pub mod Deeds
+pub mod Holding
+pub mod Turns
+pub mod Acting
+pub mod Leaving
+pub mod Looking
+pub mod Opened
+pub mod Ahead
+pub mod OnBoard

@@ -1,0 +1,4 @@
+pub mod Asking
+pub mod Replying
+pub mod View
+pub mod Serves

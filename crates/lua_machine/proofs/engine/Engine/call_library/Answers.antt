@@ -1,0 +1,37 @@
+use Rattle.std.proofs.Common.{◌≡◌, ◌<◌, ◌≤◌, ◌-◌, length, subst, arith}
+use Rattle.std.specs.Prelude.{codes}
+use Rattle.lua_heap.specs.Native.{native_view}
+use Rattle.lua_code.specs.Frames.{built_in}
+use Rattle.lua_machine.specs.View.{EngineView}
+use Rattle.lua_machine.specs.Made.{IsEngine}
+use Rattle.lua_machine.specs.Arguments.{given}
+use Rattle.lua_machine.specs.Errors.{Raised}
+use Rattle.lua_machine.specs.Entering.{called}
+use Rattle.lua_machine.proofs.Called.{enters_library, enters_too_deep}
+use Rattle.lua_machine.proofs.engine.Engine.call_library.Goals as goal
+
+pub returns-then-len-ge-MOST_CALLS : goal.returns-then-len-ge-MOST_CALLS
+returns-then-len-ge-MOST_CALLS c =
+    let m = c.args.self.now in
+    let new = c.error.new.self in
+    let v = c.in_ok-value.value in
+    let left : 0 < c.self.inside.ticks = omega (arith, c.if-self-eq0.false) in
+    let deep : 4096 ≤ c.len.result = c.if-len-ge-MOST_CALLS.true in
+    let many : 4096 ≤ length c.self.inside.frames.items = omega (arith, deep, c.len.ensures) in
+    enters_too_deep m c.args.wants (built_in (native_view c.args.native)) c.args.first c.args.count c.args.behind new v
+    (subst (λ (y : EngineView). 0 < y.ticks) c.self.view_is left)
+    (subst (λ (y : EngineView). 4096 ≤ length y.frames) c.self.view_is many)
+    (subst (λ (y : EngineView). Raised (codes "stack overflow") v (record y { ticks = y.ticks - 1 }) new) c.self.view_is c.in_ok-value.ensures)
+
+pub returns : goal.returns
+returns c =
+    let m = c.args.self.now in
+    let new = c.enter_library.new.self in
+    let is : IsEngine m = subst IsEngine c.self.view_is c.self.invariant in
+    let left : 0 < c.self.inside.ticks = omega (arith, c.if-self-eq0.false) in
+    let room : c.len.result < 4096 = omega (arith, c.if-len-ge-MOST_CALLS.false) in
+    let few : length c.self.inside.frames.items < 4096 = omega (arith, room, c.len.ensures) in
+    enters_library m c.args.wants c.args.first c.args.count c.args.behind is c.requires.ready c.args.native new
+    (subst (λ (y : EngineView). 0 < y.ticks) c.self.view_is left)
+    (subst (λ (y : EngineView). length y.frames < 4096) c.self.view_is few)
+    (subst (λ (y : EngineView). new ≡ called c.args.wants c.args.first (given (record y { ticks = y.ticks - 1 }) c.args.first c.args.count c.args.behind) (record y { ticks = y.ticks - 1 })) c.self.view_is c.in_ok-enter_library.ensures)

@@ -1,0 +1,26 @@
+use Rattle.std.proofs.Common.{refl, ap, ◌∙◌}
+use Rattle.lua_meaning.specs.Value as meant
+use Rattle.lua_meaning.specs.Expressions.{globals}
+use Rattle.lua_heap.specs.declared.value.Value.TheVariants.{Table}
+use Rattle.lua_heap.specs.Value.{value_view}
+use Rattle.lua_code.specs.declared.instr.Instr.TheVariants.{SetGlobalConst}
+use Rattle.lua_machine.specs.Does.{constant_of}
+use Rattle.lua_machine.proofs.Constants.{has_constant, constant_is}
+use Rattle.lua_machine.proofs.Settings.{takes_set}
+use Rattle.lua_machine.proofs.engine.Engine.set_global_const.Goals as goal
+
+pub constant-key-requires : goal.constant-key-requires
+constant-key-requires c = record { constant = has_constant c.args.self.now c.requires.ready.ready c.args.name c.requires.ready.known.0 }
+
+pub constant-value-requires : goal.constant-value-requires
+constant-value-requires c = record { constant = has_constant c.args.self.now c.requires.ready.ready c.args.n c.requires.ready.known.1 }
+
+pub returns : goal.returns
+returns c =
+    let m = c.args.self.now in
+    let r = c.requires.ready in
+    takes_set c.set.result (SetGlobalConst c.args.name c.args.n) m c.set.new.self r r.leads (Table c.globals.result) c.constant-key.result c.constant-value.result globals (constant_of m c.args.name) (constant_of m c.args.n)
+    (ap (λ n. meant.table n) c.globals.ensures.place)
+    (ap (value_view m.heap.texts) c.constant-key.ensures.value ∙ constant_is m r.ready c.args.name)
+    (ap (value_view m.heap.texts) c.constant-value.ensures.value ∙ constant_is m r.ready c.args.n)
+    (λ asks. refl) (λ yet. yet) c.set.ensures
