@@ -31,7 +31,7 @@ use Rattle.channel_desk.specs.Acting.{Acted}
 use Rattle.channel_desk.specs.Ahead.{Histories, entries_at, IsAhead, IsAnswered}
 use Rattle.channel_desk.proofs.Sectioned.{grown_after}
 
-at_longer : (l m : List Look) (i : ℕ) (a : Look) → get_elem? l i ≡ some a → get_elem? (l ++ m) i ≡ some a
+pub at_longer : (l m : List Look) (i : ℕ) (a : Look) → get_elem? l i ≡ some a → get_elem? (l ++ m) i ≡ some a
 at_longer [] m i a e = absurd (some-ne-none a (sym e))
 at_longer (x ∷ xs) m zero a e = e
 at_longer (x ∷ xs) m (suc i) a e = at_longer xs m i a e
@@ -45,18 +45,19 @@ channel_append (OnChannel e ∷ xs) ys = ap (λ (l : List Entry). e ∷ l) (chan
 pub prefix_channel : (xs ys : List Entry) → IsPrefix (map OnChannel xs) (map OnChannel ys) → IsPrefix xs ys
 prefix_channel xs ys p = (channel_entries p.0, sym (same_channel ys) ∙ (ap channel_entries p.1 ∙ (channel_append (map OnChannel xs) p.0 ∙ ap (λ (l : List Entry). l ++ channel_entries p.0) (same_channel xs))))
 
--- what a pass knows only grows by a turn
-turned_grew : (v w : View SharedEntry) (o : ℕ) (log log' : List SharedEntry) → IsPrefix log log' → Turned v w o log log' → (made : ℕ → List Own) × Grew made v w
+-- what a pass knows only grows by a take
+pub took_grew : (v w : View SharedEntry) (o : ℕ) (log : List SharedEntry) → Took v w o log → Grew nothing v w
+took_grew v w o log t = grew_first nothing v t.began w t.waited.grew (takes_grew summary_of rests t.began w o log t.takes t.kept t.seen)
+
+-- and by a turn
+pub turned_grew : (v w : View SharedEntry) (o : ℕ) (log log' : List SharedEntry) → IsPrefix log log' → Turned v w o log log' → (made : ℕ → List Own) × Grew made v w
 turned_grew v w o log log' grown t =
     let k = t.took in let u = t.taken in
     let ahead : (spot u o).front ≤ length log' = (let f = k.kept.front in let l = longer log log' grown in omega arith) in
     let grown' : IsPrefix (spot u o).known log' = subst (λ (l : List SharedEntry). IsPrefix l log') (sym k.kept.known) grown in
     (made_at o (released_places o log' u), grew_first (made_at o (released_places o log' u)) v u w (took_grew v u o log k) (released_grew u w o log' k.kept.phase grown' ahead t.gave))
-  where
-    took_grew : (v w : View SharedEntry) (o : ℕ) (log : List SharedEntry) → Took v w o log → Grew nothing v w
-    took_grew v w o log t = grew_first nothing v t.began w t.waited.grew (takes_grew summary_of rests t.began w o log t.takes t.kept t.seen)
 
-step_grew : (ask : Ask) (v w : View SharedEntry) (held held' : List Section) (o depth : ℕ) (log log' : List SharedEntry) → IsPrefix log log' → Step ask v w held held' o depth log log' → (made : ℕ → List Own) × Grew made v w
+pub step_grew : (ask : Ask) (v w : View SharedEntry) (held held' : List Section) (o depth : ℕ) (log log' : List SharedEntry) → IsPrefix log log' → Step ask v w held held' o depth log log' → (made : ℕ → List Own) × Grew made v w
 step_grew ask v w held held' o depth log log' grown (in_turn outside t same) = turned_grew v w o log log' grown t
 step_grew ask v w held held' o depth log log' grown (inside deep same within) = (nothing, subst (λ (u : View SharedEntry). Grew nothing v u) (sym same) (grew_same v))
 step_grew ask v w held held' o depth log log' grown (entering outside e) = let t = e.took in (nothing, grew_first nothing v t.began w t.waited.grew (takes_grew summary_of rests t.began w o log t.takes t.kept t.seen))
@@ -102,7 +103,7 @@ step_keeps ask v w held held' o depth log log' hs few grown ahead step =
     rest (entering outside e) = all_front (λ (s : Section). IsPrefix (history_of s.held.value) (entries_at hs s.held.object)) held e.section (subst (All (λ (s : Section). IsPrefix (history_of s.held.value) (entries_at hs s.held.object))) e.items ahead.sections)
     rest (leaving deep l) = subst (All (λ (s : Section). IsPrefix (history_of s.held.value) (entries_at hs s.held.object))) (sym l.items) (All-push (λ (s : Section). IsPrefix (history_of s.held.value) (entries_at hs s.held.object)) held' l.section ahead.sections (before l.section l.object l.before))
 
-channel_entries_at : (hs : Histories) (o : ℕ) → 0 < o → entries_at hs o ≡ map OnChannel (hs.channels o)
+pub channel_entries_at : (hs : Histories) (o : ℕ) → 0 < o → entries_at hs o ≡ map OnChannel (hs.channels o)
 channel_entries_at hs zero low = absurd (omega arith)
 channel_entries_at hs (suc o) low = refl
 

@@ -13,3 +13,12 @@ pub mod Opened
 pub mod Ahead
 pub mod BoardNumbers
 pub mod BoardComing
+pub mod BoardTurns
+pub mod Sights
+pub mod Demands
+pub mod Waits
+pub mod Rounds
+pub mod Rising
+pub mod Noted
+pub mod Further
+pub mod Reached

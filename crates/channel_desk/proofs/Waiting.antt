@@ -48,7 +48,7 @@ waited_further u v w a b = record {
   held = λ o busy. b.held o (a.phases o ∙ busy) ∙ a.held o busy;
 }
 
-looked_else : (v w : View SharedEntry) (o place summary p : ℕ) → w ≡ looked o place summary v → p ≢ o → spot w p ≡ spot v p
+pub looked_else : (v w : View SharedEntry) (o place summary p : ℕ) → w ≡ looked o place summary v → p ≢ o → spot w p ≡ spot v p
 looked_else v w o place summary p e ne = ap (λ (z : View SharedEntry). spot z p) e ∙ get_or-set_other v.spots o p _ blank ne
 
 pub waited_looked : (v w : View SharedEntry) (o place summary : ℕ) → (spot v o).phase ≡ Free → (spot v o).front ≤ place → w ≡ looked o place summary v → Waited v w
@@ -135,6 +135,13 @@ can_give desk p q o o' log y laid own took same few grown kind = subst (λ (n : 
   grown = subst (λ (l : List SharedEntry). IsPrefix l (history_of y)) (sym took.kept.known) grown;
   fixed = kind ∙ ap (λ (f : List ℕ). slice_index f o) (sym (took_fixed p.view q.view o log took));
 })
+
+pub took_at : (v w : View SharedEntry) (o o' : ℕ) (log : List SharedEntry) → o ≡ o' → Took v w o log → Took v w o' log
+took_at v w o o' log same took = subst (λ (n : ℕ). Took v w n log) same took
+
+-- an object that was taken goes on from what the pass knows of it
+pub grown_known : (v w : View SharedEntry) (o o' : ℕ) (log log' : List SharedEntry) → Took v w o log → o' ≡ o → IsPrefix log log' → IsPrefix (spot w o').known log'
+grown_known v w o o' log log' took same grown = subst (λ (n : ℕ). IsPrefix (spot w n).known log') (sym same) (subst (λ (l : List SharedEntry). IsPrefix l log') (sym took.kept.known) grown)
 
 -- what the pass knows of an object whose turn it had, and gave back unchanged
 pub known_turn : (v u w : View SharedEntry) (o : ℕ) (log : List SharedEntry) → Took v u o log → w ≡ freed o (published o log u) → (spot w o).known ≡ log

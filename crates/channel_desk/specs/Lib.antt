@@ -9,3 +9,6 @@ pub mod Looking
 pub mod Opened
 pub mod Ahead
 pub mod OnBoard
+pub mod Finishing
+pub mod Awaiting
+pub mod ThreadEnd

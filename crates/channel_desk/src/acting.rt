@@ -206,19 +206,8 @@ impl Sections<'_, Vec<Section>> {
         Ok(asked(by, channel, place, ask, given))
     }
 
-    /// Answers an ask about a Channel: to send a message, to receive, see or clear messages, to
-    /// begin or end a section. It waits only for the Channel's turn. The other asks about Channels
-    /// are for [`glance`](Sections::glance), or wait for a change.
-    ///
-    /// A section ends in the order in which the sections began: to end the outermost one on a
-    /// Channel it stands last.
-    ///
-    /// # Errors
-    ///
-    /// [`ActFault::Stopped`] where state 0 has ended, and the state is inside a section while
-    /// another pass has the Channel of its ask; [`ActFault::Memory`] where there is no memory, or
-    /// where the state did something later at that Channel.
-    pub fn act<R: Wait>(&mut self, rt: &R, ask: Ask) -> Result<Action, ActFault>
+    // An ask about a Channel that is answered at once.
+    pub(crate) fn act_on_channel<R: Wait>(&mut self, rt: &R, ask: Ask) -> Result<Action, ActFault>
         requires holding { IsHolding self.old.desk.now self.old.state self.old.next
             self.old.pass.now self.old.held.items }
         requires ask { IsDeed ask }

@@ -5,20 +5,27 @@
 #![tactic(auto)]
 
 mod acting;
+mod awaiting;
 mod board_deeds;
 mod board_given;
 mod boarding;
 mod deeds;
+mod demanding;
 mod fault;
+mod finishing;
 mod given;
 mod held;
 mod leaving;
 mod looking;
 mod nesting;
+mod pacing;
 mod sections;
 mod shared;
 mod stamps;
+mod thread_end;
 mod turns;
+mod unanswered;
+mod watching;
 
 pub use deeds::answer_ask;
 pub use fault::ActFault;

@@ -60,7 +60,7 @@ fn reply_by_counts(ask: &Ask, sent: u32, received: u32) -> Option<Reply>
 }
 
 // The counts of a Channel that a pass has.
-fn counts_of(held: &Held<Shared>) -> (u32, u32)
+pub(crate) fn counts_of(held: &Held<Shared>) -> (u32, u32)
     requires { kind_of held.now.value ≡ 0 }
     ensures { AreCounts (channel_in held.now.value) result.0 result.1 }
 {
@@ -71,7 +71,7 @@ fn counts_of(held: &Held<Shared>) -> (u32, u32)
 }
 
 // The two counts that a Channel's tally shows.
-fn counts_by(summary: u64) -> (u32, u32)
+pub(crate) fn counts_by(summary: u64) -> (u32, u32)
     requires { summary < 2 ^ 42 }
     ensures { (h : List AnEntry) → packed (sent h) (received h) ≡ summary
         → AreCounts h result.0 result.1 }

@@ -22,7 +22,7 @@ use std::sync::Wait;
 use variant::{Action, Ask, Reply, Variant};
 
 // What an ask comes to in a section, in which the state stays.
-fn answer_section(
+pub(crate) fn answer_section(
     alloc: Global,
     section: &mut Section,
     by: Stamp,

@@ -22,6 +22,8 @@ pub mod Following
 pub mod Talking
 pub mod Keeping
 pub mod Stepping
+pub mod Growing
+pub mod Advancing
 pub mod Trees
 pub mod Protos
 pub mod Viewing

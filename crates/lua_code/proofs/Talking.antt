@@ -70,7 +70,7 @@ paused_is program zero (on c) d o = absurd o
 paused_is program (suc n) (on c) d o = paused_is program n (act program c) d o
 
 -- what a run from the start comes to is what the function means
-means : (start : Start) (b : Block) (rs : List Reply) (j : ℕ) (e : End) → exec (program_of start.game) j (first_config start b) rs ≡ Some e → end_of (meant (fed start rs) b) ≡ e
+pub means : (start : Start) (b : Block) (rs : List Reply) (j : ℕ) (e : End) → exec (program_of start.game) j (first_config start b) rs ≡ Some e → end_of (meant (fed start rs) b) ≡ e
 means start b rs j e h = let x = follows (fed start rs) b in one_end (program_of start.game) x.0 j (first_config start b) rs _ e x.1 h
 
 pub talk : AllTalk

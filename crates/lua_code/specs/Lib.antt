@@ -14,4 +14,5 @@ pub mod Trees
 pub mod Held
 pub mod Follows
 pub mod Talks
+pub mod Growing
 pub mod rows

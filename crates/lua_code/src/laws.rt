@@ -1,6 +1,7 @@
 //! Laws of the definitions, each the contract of a function that does nothing.
 
 ghost use Rattle.lua_code.specs.Follows.{Follows};
+ghost use Rattle.lua_code.specs.Growing.{AllGrow};
 ghost use Rattle.lua_code.specs.Sound.{AllKeep};
 ghost use Rattle.lua_code.specs.Talks.{AllTalk};
 ghost use Rattle.lua_code.specs.Trees.{AllSound};
@@ -15,6 +16,12 @@ pub fn follows()
 /// to come, are those of the meaning.
 pub fn talks()
     ensures { AllTalk }
+{}
+
+/// What a machine has done is a beginning of what its run means, whatever replies are still to come,
+/// and each run comes to an end.
+pub fn grows()
+    ensures { AllGrow }
 {}
 
 /// Sound code of a sound program is never stuck, and each step goes down; it goes on from each reply.

@@ -1,7 +1,7 @@
 //! Deeds of one state.
 ghost use Rattle.std.specs.Prelude.{◌≡◌, ◌+◌, ◌<◌, ◌≤◌, []};
 ghost use Rattle.channel_desk.specs.Acting.{MayLeave};
-ghost use Rattle.channel_desk.specs.Deeds.{IsDeed};
+ghost use Rattle.channel_desk.specs.OnBoard.{IsActed};
 ghost use Rattle.channel_desk.specs.Holding.{IsHolding};
 ghost use Rattle.channel_desk.specs.Opened.{AreLaid};
 
@@ -24,7 +24,7 @@ fn answered<R: Wait>(
 ) -> Option<Reply>
     requires holding { IsHolding stack.old.desk.now stack.old.state stack.old.next
         stack.old.pass.now stack.old.held.items }
-    requires ask { IsDeed ask }
+    requires ask { IsActed ask }
     requires leave { MayLeave ask stack.old.held.items }
     requires next { stack.old.next < 1000 }
     ensures same { stack.new.pass.ghost_name ≡ stack.old.pass.ghost_name }
