@@ -5,7 +5,7 @@ use Rattle.std.specs.List.{AllByRecursion}
 use Rattle.std.proofs.lemmas.List.{length-map, map-append}
 use Rattle.lua_tree.specs.Tree.{Bytes}
 use Rattle.lua_meaning.specs.Value as meant
-use Rattle.lua_meaning.specs.Message.{Ask}
+use Rattle.lua_machine.specs.Past.{Past}
 use Rattle.lua_meaning.specs.Store.{Store}
 use Rattle.lua_heap.specs.declared.entries.Function.{Function}
 use Rattle.lua_heap.specs.declared.value.Value.TheVariants.{Func}
@@ -16,7 +16,7 @@ use Rattle.lua_code.specs.View.{ProtoView, Inner, inner_at, inners, code_at}
 use Rattle.lua_code.specs.Valid.{cells_at, captures_of, captures_at}
 use Rattle.lua_code.specs.State.{put, Made, Config, on}
 use Rattle.lua_machine.specs.declared.status.Status.TheVariants.{Goes}
-use Rattle.lua_machine.specs.View.{EngineView, cell_at, protos_at, proto_at, no_proto, slots_view, registers_of, frames_of, made_view, config_in, config_of}
+use Rattle.lua_machine.specs.View.{EngineView, cell_at, protos_at, proto_at, no_proto, slots_view, registers_of, frames_of, made_view, modules_in, config_in, config_of}
 use Rattle.lua_machine.specs.Ready.{IsCode, IsLoaded, IsReadyFor}
 use Rattle.lua_machine.specs.Does.{with_slot, at_pc, HasCell, Takes}
 use Rattle.lua_machine.specs.Changes.{held_cells}
@@ -83,14 +83,14 @@ module _ (m : EngineView) (to n : ℕ) (r : IsReadyFor (Close to n) m) where
       let slots : m.base + suc to ≤ length m.values = r.slots in
       let long = length_set m.values (m.base + to) (Func id) in
       record {
-        step = λ asks.
-            ap (λ k. on (with_all asks (put (slots_view m.heap.texts m.values) (m.base + to) (meant.func k)) (map (made_view m.chunks) m.heap.functions ++ first ∷ []))) (length-map m.heap.functions (made_view m.chunks) ∙ sym is_id)
-            ∙ ap (λ (slots : ℕ → meant.Value). on (with_all asks slots (map (made_view m.chunks) m.heap.functions ++ first ∷ []))) (slots_set m.heap.texts m.values (m.base + to) (Func id) (omega (arith, slots)))
-            ∙ ap (λ (x : Made). on (with_all asks (slots_view m.heap.texts (set m.values (m.base + to) (Func id))) (map (made_view m.chunks) m.heap.functions ++ x ∷ []))) made_is
-            ∙ ap (λ (fs : List Made). on (with_all asks (slots_view m.heap.texts (set m.values (m.base + to) (Func id))) fs)) (sym (map-append (made_view m.chunks) m.heap.functions (made ∷ [])))
-            ∙ ap (λ (fs : List Function). on (config_in m.heap.texts fs (store_of m.heap) asks (with_slot m to (Func id)))) (sym functions)
-            ∙ ap (λ (s : Store). on (config_in m.heap.texts h.functions s asks (with_slot m to (Func id)))) (sym store)
-            ∙ ap (λ (ts : List Bytes). on (config_in ts h.functions (store_of h) asks (with_slot m to (Func id)))) (sym texts);
+        step = λ past.
+            ap (λ k. on (with_all past (put (slots_view m.heap.texts m.values) (m.base + to) (meant.func k)) (map (made_view m.chunks) m.heap.functions ++ first ∷ []))) (length-map m.heap.functions (made_view m.chunks) ∙ sym is_id)
+            ∙ ap (λ (slots : ℕ → meant.Value). on (with_all past slots (map (made_view m.chunks) m.heap.functions ++ first ∷ []))) (slots_set m.heap.texts m.values (m.base + to) (Func id) (omega (arith, slots)))
+            ∙ ap (λ (x : Made). on (with_all past (slots_view m.heap.texts (set m.values (m.base + to) (Func id))) (map (made_view m.chunks) m.heap.functions ++ x ∷ []))) made_is
+            ∙ ap (λ (fs : List Made). on (with_all past (slots_view m.heap.texts (set m.values (m.base + to) (Func id))) fs)) (sym (map-append (made_view m.chunks) m.heap.functions (made ∷ [])))
+            ∙ ap (λ (fs : List Function). on (config_in m.heap.texts fs (store_of m.heap) past (with_slot m to (Func id)))) (sym functions)
+            ∙ ap (λ (s : Store). on (config_in m.heap.texts h.functions s past (with_slot m to (Func id)))) (sym store)
+            ∙ ap (λ (ts : List Bytes). on (config_in ts h.functions (store_of h) past (with_slot m to (Func id)))) (sym texts);
         kept = goes_on m (with_slot (record m { heap = h }) to (Func id)) (cells_at m.proto m.pc) r.ready (subst (λ (ts : List Bytes). AllByRecursion (IsLoaded ts) m.chunks) (sym texts) r.ready.fit.chunks)
             (record {
               chunks = refl;
@@ -106,19 +106,19 @@ module _ (m : EngineView) (to n : ℕ) (r : IsReadyFor (Close to n) m) where
             }) r.cells r.leads;
       }
     where
-      with_all : List Ask → (ℕ → meant.Value) → List Made → Config
-      with_all asks slots fs = record {
-        active = (config_of asks (at_pc m (m.pc + 1))).active;
+      with_all : Past → (ℕ → meant.Value) → List Made → Config
+      with_all past slots fs = record {
+        active = (config_of past (at_pc m (m.pc + 1))).active;
         frames = frames_of m;
         registers = record { slots = slots; cells = (registers_of m).cells; tail = (registers_of m).tail };
         state = record {
           store = store_of m.heap;
           functions = fs;
-          modules = [];
-          output = m.output;
-          ends = m.ends;
+          modules = modules_in m.heap.texts m;
+          output = past.output;
+          ends = past.ends;
           ticks = m.ticks;
-          asks = asks;
+          asks = past.asks;
         };
       }
 

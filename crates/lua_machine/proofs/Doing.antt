@@ -1,16 +1,16 @@
 -- What a change of the machine's is to the definitions.
 use Rattle.std.proofs.Common.{◌≡◌, ℕ, zero, suc, ◌+◌, ◌<◌, List, [], ◌∷◌, length, set, Bool, true, false, refl, sym, ap, ◌∙◌, arith}
 use Rattle.std.proofs.lemmas.Bool.{eq-eqb, eqb-true}
-use Rattle.std.specs.Prelude.{◌==◌, if◌then◌else◌}
+use Rattle.std.specs.Prelude.{◌==◌, if◌then◌else◌, Option, None, Some, IfSome}
 use Rattle.std.specs.List.{AllByRecursion}
 use Rattle.std.proofs.lemmas.List.{length-map}
 use Rattle.lua_tree.specs.Tree.{Bytes}
 use Rattle.lua_meaning.specs.Value as meant
 use Rattle.lua_meaning.specs.Value.{num}
 use Rattle.lua_meaning.specs.Store.{Store, set_cell, add_table}
-use Rattle.lua_meaning.specs.Message.{Ask}
+use Rattle.lua_machine.specs.Past.{Past}
 use Rattle.lua_heap.specs.declared.value.Value.{Value}
-use Rattle.lua_heap.specs.declared.value.Value.TheVariants.{Table}
+use Rattle.lua_heap.specs.declared.value.Value.TheVariants.{Table, Str}
 use Rattle.lua_heap.specs.Value.{value_view, IsCounted}
 use Rattle.lua_heap.specs.Heap.{HeapView, store_of, table_view, counts, IsMade, Becomes, Extends}
 use Rattle.lua_heap.proofs.Callers.{IsMade-later}
@@ -20,8 +20,9 @@ use Rattle.lua_code.specs.Doing.{Doing, gives}
 use Rattle.lua_code.specs.State.{put, Config, on}
 use Rattle.lua_code.specs.Act as act
 use Rattle.lua_operators.proofs.Callers.{AreEvents-later}
+use Rattle.lua_machine.specs.declared.module.Module.{Module}
 use Rattle.lua_machine.specs.View.{EngineView, value_at, cell_at, slots_view, registers_of, run_of, frames_of, state_in, state_of, config_in, config_of}
-use Rattle.lua_machine.specs.Made.{AreMade, IsMadeChunk, IsEngine}
+use Rattle.lua_machine.specs.Made.{AreMade, IsMadeChunk, IsMadeModule, IsEngine}
 use Rattle.lua_machine.specs.Does.{with_slot, at_pc, Did}
 
 -- ---- lists
@@ -76,19 +77,20 @@ with_slot_is m n v is made =
       args = is.args;
       cells = is.cells;
       chunks = is.chunks;
+      modules = is.modules;
     }
 
 -- ---- steps
 
 -- where a slot gets a value
-pub puts : (m : EngineView) (n : ℕ) (v : Value) (w : meant.Value) → m.base + n < length m.values → w ≡ value_view m.heap.texts v → (asks : List Ask) → act.puts (run_of m) (frames_of m) (registers_of m) (state_of asks m) n w ≡ on (config_of asks (with_slot m n v))
-puts m n v w lt same asks =
-    ap (act.puts (run_of m) (frames_of m) (registers_of m) (state_of asks m) n) same
+pub puts : (m : EngineView) (n : ℕ) (v : Value) (w : meant.Value) → m.base + n < length m.values → w ≡ value_view m.heap.texts v → (past : Past) → act.puts (run_of m) (frames_of m) (registers_of m) (state_of past m) n w ≡ on (config_of past (with_slot m n v))
+puts m n v w lt same past =
+    ap (act.puts (run_of m) (frames_of m) (registers_of m) (state_of past m) n) same
     ∙ ap (λ (slots : ℕ → meant.Value). on (record {
-      active = (config_of asks (at_pc m (m.pc + 1))).active;
+      active = (config_of past (at_pc m (m.pc + 1))).active;
       frames = frames_of m;
       registers = record { slots = slots; cells = (registers_of m).cells; tail = (registers_of m).tail };
-      state = state_of asks m;
+      state = state_of past m;
     })) (slots_set m.heap.texts m.values (m.base + n) v lt)
 
 -- ---- a heap that changes
@@ -111,44 +113,52 @@ later_at m h pc more is =
       args = values m.args is.args;
       cells = weaker (λ (c : ℕ). c < length m.heap.cells) (λ (c : ℕ). c < length h.cells) m.cells (λ c lt. let le = more.cells in omega (arith, lt, le)) is.cells;
       chunks = weaker (IsMadeChunk m.heap) (IsMadeChunk h) m.chunks (λ x all. weaker (AreMade m.heap) (AreMade h) x.constants.items values all) is.chunks;
+      modules = weaker (IsMadeModule m.heap) (IsMadeModule h) m.modules named is.modules;
     }
   where
     values : (vs : List Value) → AreMade m.heap vs → AreMade h vs
     values vs all = weaker (IsCounted (counts m.heap)) (IsCounted (counts h)) vs (λ v made. IsMade-later m.heap h more v made) all
 
+    loaded : (o : Option Value) → IfSome o (IsCounted (counts m.heap)) → IfSome o (IsCounted (counts h))
+    loaded None made = tt
+    loaded (Some v) made = IsMade-later m.heap h more v made
+
+    named : (x : Module) → IsMadeModule m.heap x → IsMadeModule h x
+    named x made = record { name = IsMade-later m.heap h more (Str x.name) made.name; value = loaded x.value made.value }
+
 -- what it is to the definitions, where the heap's strings and functions stay
-pub becomes_config : (m : EngineView) (h : HeapView) (change : Store → Store) (asks : List Ask) → Becomes m.heap h change → config_of asks (record m { heap = h }) ≡ config_in m.heap.texts m.heap.functions (change (store_of m.heap)) asks m
-becomes_config m h change asks b =
-    ap (λ t. config_in t h.functions (store_of h) asks m) b.texts
-    ∙ ap (λ f. config_in m.heap.texts f (store_of h) asks m) b.functions
-    ∙ ap (λ s. config_in m.heap.texts m.heap.functions s asks m) b.store
+pub becomes_config : (m : EngineView) (h : HeapView) (change : Store → Store) (past : Past) → Becomes m.heap h change → config_of past (record m { heap = h }) ≡ config_in m.heap.texts m.heap.functions (change (store_of m.heap)) past m
+becomes_config m h change past b =
+    ap (λ t. config_in t h.functions (store_of h) past m) b.texts
+    ∙ ap (λ f. config_in m.heap.texts f (store_of h) past m) b.functions
+    ∙ ap (λ s. config_in m.heap.texts m.heap.functions s past m) b.store
 
 -- where a cell is set
 pub cell_set : (m : EngineView) (h : HeapView) (cell from id : ℕ) (v : Value) → id ≡ cell_at m.cells (m.cell_base + cell) → v ≡ value_at m.values (m.base + from) → Becomes m.heap h (λ s. set_cell s id (value_view m.heap.texts v)) → Did (i.set_cell cell (slot from)) m (record m { heap = h; pc = m.pc + 1 })
-cell_set m h cell from id v same_id same_value b asks =
-    ap (λ n. on (config_in m.heap.texts m.heap.functions (set_cell (store_of m.heap) n (slots_view m.heap.texts m.values (m.base + from))) asks (at_pc m (m.pc + 1)))) (sym same_id)
-    ∙ ap (λ w. on (config_in m.heap.texts m.heap.functions (set_cell (store_of m.heap) id (value_view m.heap.texts w)) asks (at_pc m (m.pc + 1)))) (sym same_value)
-    ∙ ap on (sym (becomes_config (at_pc m (m.pc + 1)) h (λ s. set_cell s id (value_view m.heap.texts v)) asks b))
+cell_set m h cell from id v same_id same_value b past =
+    ap (λ n. on (config_in m.heap.texts m.heap.functions (set_cell (store_of m.heap) n (slots_view m.heap.texts m.values (m.base + from))) past (at_pc m (m.pc + 1)))) (sym same_id)
+    ∙ ap (λ w. on (config_in m.heap.texts m.heap.functions (set_cell (store_of m.heap) id (value_view m.heap.texts w)) past (at_pc m (m.pc + 1)))) (sym same_value)
+    ∙ ap on (sym (becomes_config (at_pc m (m.pc + 1)) h (λ s. set_cell s id (value_view m.heap.texts v)) past b))
 
 -- where a table is made
 pub table_made : (m : EngineView) (h : HeapView) (to id : ℕ) → m.base + to < length m.values → id ≡ length m.heap.tables → Becomes m.heap h add_table → Did (i.new_table to) m (with_slot (record m { heap = h }) to (Table id))
-table_made m h to id lt same_id b asks =
+table_made m h to id lt same_id b past =
     ap (λ n. on (going n)) (length-map m.heap.tables (table_view m.heap.texts) ∙ sym same_id)
     ∙ ap (λ (slots : ℕ → meant.Value). on (with_slots slots)) (slots_set m.heap.texts m.values (m.base + to) (Table id) lt)
-    ∙ ap on (sym (becomes_config (with_slot m to (Table id)) h add_table asks b))
+    ∙ ap on (sym (becomes_config (with_slot m to (Table id)) h add_table past b))
   where
     with_slots : (ℕ → meant.Value) → Config
     with_slots slots = record {
-      active = (config_of asks (at_pc m (m.pc + 1))).active;
+      active = (config_of past (at_pc m (m.pc + 1))).active;
       frames = frames_of m;
       registers = record { slots = slots; cells = (registers_of m).cells; tail = (registers_of m).tail };
-      state = state_in m.heap.functions (add_table (store_of m.heap)) asks m;
+      state = state_in m.heap.texts m.heap.functions (add_table (store_of m.heap)) past m;
     }
 
     going : ℕ → Config
     going n = with_slots (put (slots_view m.heap.texts m.values) (m.base + to) (meant.table n))
 
 -- where an operator gives a value
-pub gives_did : (m : EngineView) (s : Site) (to : ℕ) (d : Doing) (v : Value) → m.base + to < length m.values → d ≡ gives (value_view m.heap.texts v) → (asks : List Ask) → act.does (run_of m) (frames_of m) (registers_of m) (state_of asks m) s to d ≡ on (config_of asks (with_slot m to v))
-gives_did m s to d v lt e asks =
-    ap (λ d. act.does (run_of m) (frames_of m) (registers_of m) (state_of asks m) s to d) e ∙ puts m to v _ lt refl asks
+pub gives_did : (m : EngineView) (s : Site) (to : ℕ) (d : Doing) (v : Value) → m.base + to < length m.values → d ≡ gives (value_view m.heap.texts v) → (past : Past) → act.does (run_of m) (frames_of m) (registers_of m) (state_of past m) s to d ≡ on (config_of past (with_slot m to v))
+gives_did m s to d v lt e past =
+    ap (λ d. act.does (run_of m) (frames_of m) (registers_of m) (state_of past m) s to d) e ∙ puts m to v _ lt refl past

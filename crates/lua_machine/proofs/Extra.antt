@@ -51,16 +51,17 @@ with_extra_is m pc tail same is =
       args = is.args;
       cells = is.cells;
       chunks = is.chunks;
+      modules = is.modules;
     }
 
 takes_extra : (m : EngineView) (tail : List Value) → IsReadyFor AllExtra m → tail ≡ drop m.extra_base m.extras → Takes AllExtra Goes m (record m { tail = tail; pc = m.pc + 1 })
 takes_extra m tail r same =
     record {
-      step = λ asks. ap (λ vs. on (record {
-        active = (config_of asks (at_pc m (m.pc + 1))).active;
+      step = λ past. ap (λ vs. on (record {
+        active = (config_of past (at_pc m (m.pc + 1))).active;
         frames = frames_of m;
         registers = record { slots = (registers_of m).slots; cells = (registers_of m).cells; tail = vs };
-        state = state_of asks m;
+        state = state_of past m;
       })) (sym (extra_is m) ∙ ap (map (value_view m.heap.texts)) (sym same));
       kept = goes_on m (record m { tail = tail; pc = m.pc + 1 }) (cells_at m.proto m.pc) r.ready r.ready.fit.chunks
           (record {

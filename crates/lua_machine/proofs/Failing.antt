@@ -1,5 +1,5 @@
 -- The values of errors of functions of the library.
-use Rattle.std.proofs.Common.{◌≡◌, ℕ, ◌<◌, List, [], ◌∷◌, ◌++◌, length, false, refl, sym, ap, ◌∙◌, subst, Option, Some, None, slice_get}
+use Rattle.std.proofs.Common.{◌≡◌, ℕ, ◌-◌, ◌<◌, List, [], ◌∷◌, ◌++◌, length, false, refl, sym, ap, ◌∙◌, subst, Option, Some, None, slice_get, arith}
 use Rattle.std.specs.Prelude.{unwrap_or, codes, reverse, Result, Ok, Err, IfOk}
 use Rattle.std.specs.Fmt.{signed_decimal}
 use Rattle.std.proofs.lemmas.List.{reverse-append}
@@ -23,23 +23,32 @@ use Rattle.lua_lib.specs.Causes.{expected_text, error_of}
 use Rattle.lua_lib.specs.Texts.{cause_text, placed_text, cause_value}
 use Rattle.lua_lib.proofs.Texts.{error-value}
 use Rattle.lua_code.specs.Instr as i
+use Rattle.lua_code.specs.Frames as frames
 use Rattle.lua_code.specs.Frames.{places}
+use Rattle.lua_machine.specs.declared.frame.Wants as frame
+use Rattle.lua_machine.specs.declared.frame.Duty.{Duty}
+use Rattle.lua_machine.specs.declared.frame.Role.{Role}
+use Rattle.lua_machine.specs.declared.frame.Role.TheVariants.{Waits, Serves}
 use Rattle.lua_machine.specs.declared.frame.Frame.{Frame}
 use Rattle.lua_machine.specs.declared.chunk.Chunk.{Chunk}
-use Rattle.lua_machine.specs.View.{EngineView, protos_at, proto_at, no_proto, code_of, line_of, place_of, frames_below, frames_of, config_of}
+use Rattle.lua_machine.specs.View.{EngineView, protos_at, proto_at, no_proto, code_of, line_of, place_of, kept_in, frame_as, frame_in, frames_below, frames_of, config_of}
 use Rattle.lua_machine.specs.Made.{IsEngine}
-use Rattle.lua_machine.specs.Serving.{IsTop, is_memory, IsText, Failed}
-use Rattle.lua_machine.proofs.Keeping.{get_in}
+use Rattle.lua_machine.specs.Frames.{IsTop}
+use Rattle.lua_machine.specs.Ready.{AreFit}
+use Rattle.lua_machine.specs.Serving.{IsCaller, IsCallerOf, is_memory, IsText, Failed}
+use Rattle.lua_machine.proofs.Keeping.{get_in, sound_at, fit_grown}
+use Rattle.lua_machine.proofs.Resuming.{top_paused}
 use Rattle.lua_machine.proofs.Fetching.{code_is}
 use Rattle.lua_machine.proofs.Growing.{grown}
 
 -- a text that has its id
-pub text_of : (e m : EngineView) → e ≡ m → IsEngine e → (h : HeapView) (id : ℕ) (text : Bytes) → slice_get h.texts id ≡ Some text → id < length h.texts → Extends e.heap h → store_of h ≡ store_of e.heap → h.functions ≡ e.heap.functions → IsText text (values.Str id) m (record e { heap = h })
-text_of e m seen is h id text there made more store functions =
+pub text_of : (e m : EngineView) → e ≡ m → IsEngine e → AreFit m → (h : HeapView) (id : ℕ) (text : Bytes) → slice_get h.texts id ≡ Some text → id < length h.texts → Extends e.heap h → store_of h ≡ store_of e.heap → h.functions ≡ e.heap.functions → IsText text (values.Str id) m (record e { heap = h })
+text_of e m seen is fit h id text there made more store functions =
     record {
       value_is = ap (λ o. meant.str (unwrap_or o [])) there;
       made = made;
-      same = λ asks. grown e h is more store functions asks ∙ ap (λ (v : EngineView). config_of asks v) seen;
+      same = λ past. grown e h is more store functions past ∙ ap (λ (v : EngineView). config_of past v) seen;
+      fit = fit_grown e h is more functions (subst AreFit (sym seen) fit);
     }
 
 -- where a function waits
@@ -111,17 +120,36 @@ placed_value f at texts (Raises v) own = absurd (own v refl)
 
 -- ---- whoever called the function
 
-caller_top : (m : EngineView) (f : Frame) (frames : List Frame) → m.frames ≡ frames ++ f ∷ [] → caller (places (frames_of m)) ≡ Some (place_of m.chunks f)
-caller_top m f frames were =
-    ap (λ (fs : List Frame). caller (places (frames_below m.heap.texts m m.extra_base (reverse fs)))) were
-    ∙ ap (λ (fs : List Frame). caller (places (frames_below m.heap.texts m m.extra_base fs))) (reverse-append frames (f ∷ []))
+top_place : (m : EngineView) (f : Frame) (before : List Frame) → m.frames ≡ before ++ f ∷ [] → caller (places (frames_of m)) ≡ frames.place_of (frame_in m.chunks (kept_in m.heap.texts m.extras f.extra_base m.extra_base) f)
+top_place m f before were =
+    ap (λ (fs : List Frame). caller (places (frames_below m.heap.texts m.chunks m.extras m.extra_base (reverse fs)))) were
+    ∙ ap (λ (fs : List Frame). caller (places (frames_below m.heap.texts m.chunks m.extras m.extra_base fs))) (reverse-append before (f ∷ []))
 
-caller_none : (m : EngineView) → m.frames ≡ [] → caller (places (frames_of m)) ≡ None
-caller_none m none = ap (λ (fs : List Frame). caller (places (frames_below m.heap.texts m m.extra_base (reverse fs)))) none
+pub no_caller : (m : EngineView) → m.frames ≡ [] → IsCaller None m
+no_caller m none = ap (λ (fs : List Frame). caller (places (frames_below m.heap.texts m.chunks m.extras m.extra_base (reverse fs)))) none
+
+pub library_caller : (m : EngineView) (f : Frame) (duty : Duty) → IsTop (Some f) m.frames → f.role ≡ Serves duty → IsCaller None m
+library_caller m f duty top role =
+    top_place m f top.0 top.1
+    ∙ ap (λ (r : Role). frames.place_of (frame_as r m.chunks (kept_in m.heap.texts m.extras f.extra_base m.extra_base) f)) role
+
+pub lua_caller : (m : EngineView) (f : Frame) (wants : frame.Wants) → AreFit m → IsTop (Some f) m.frames → f.role ≡ Waits wants → IsCaller (Some f) m
+lua_caller m f wants fit top role =
+    let paused = top_paused m fit top.0 f top.1 wants role in
+    let known = paused.placed.known in
+    let inside = paused.placed.inside in
+    let long = (sound_at m f.chunk f.func fit known).held.sites in
+    record {
+      place =
+          top_place m f top.0 top.1
+          ∙ ap (λ (r : Role). frames.place_of (frame_as r m.chunks (kept_in m.heap.texts m.extras f.extra_base m.extra_base) f)) role;
+      known = known;
+      inside = omega (arith, inside, long);
+    }
 
 module _ (f : Native) (cause : Cause) (value : Value) (m new : EngineView) (own : (v : Value) → cause ≡ Raises v → ⊥) (other : is_memory cause ≡ false) where
-  pub fails_placed : (frame : Frame) → IsTop (Some frame) m.frames → IsText (placed_text (native_view f) (place_of m.chunks frame) cause) value m new → Failed f cause value m new
-  fails_placed frame top text =
+  pub fails_placed : (frame : Frame) → IsCallerOf frame m → IsText (placed_text (native_view f) (place_of m.chunks frame) cause) value m new → Failed f cause value m new
+  fails_placed frame is_caller text =
       let has = has_error (native_view f) m.heap.texts cause own other in
       record {
         error = has.error;
@@ -130,28 +158,30 @@ module _ (f : Native) (cause : Cause) (value : Value) (m new : EngineView) (own 
             text.value_is
             ∙ sym (placed_value (native_view f) (place_of m.chunks frame) m.heap.texts cause own)
             ∙ sym (error-value (native_view f) (place_of m.chunks frame) m.heap.texts cause has.error has.is)
-            ∙ ap (λ (o : Option Place). fault_value (native_view f) o has.error) (sym (caller_top m frame top.0 top.1));
+            ∙ ap (λ (o : Option Place). fault_value (native_view f) o has.error) (sym is_caller.place);
         made = text.made;
         same = text.same;
+        fit = text.fit;
       }
 
-  pub fails_plain : IsTop None m.frames → IsText (cause_text (native_view f) cause) value m new → Failed f cause value m new
+  pub fails_plain : IsCaller None m → IsText (cause_text (native_view f) cause) value m new → Failed f cause value m new
   fails_plain none text =
       let has = has_error (native_view f) m.heap.texts cause own other in
       record {
         error = has.error;
         is = has.is;
-        value_is = text.value_is ∙ sym has.plain ∙ ap (λ (o : Option Place). fault_value (native_view f) o has.error) (sym (caller_none m none));
+        value_is = text.value_is ∙ sym has.plain ∙ ap (λ (o : Option Place). fault_value (native_view f) o has.error) (sym none);
         made = text.made;
         same = text.same;
+        fit = text.fit;
       }
 
 -- a value that a program gave
-pub fails_own : (f : Native) (cause : Cause) (v value : Value) (m : EngineView) → cause ≡ Raises v → value ≡ v → IsMade m.heap value → Failed f cause value m m
-fails_own f cause v value m is same made =
+pub fails_own : (f : Native) (cause : Cause) (v value : Value) (m : EngineView) → cause ≡ Raises v → value ≡ v → IsMade m.heap value → AreFit m → Failed f cause value m m
+fails_own f cause v value m is same made fit =
     subst (λ (x : Cause). Failed f x value m m) (sym is)
-    (record { error = _; is = refl; value_is = ap (value_view m.heap.texts) same; made = made; same = λ asks. refl })
+    (record { error = _; is = refl; value_is = ap (value_view m.heap.texts) same; made = made; same = λ past. refl; fit = fit })
 
-pub owns : {E : Type 0} (o : Result Value E) (f : Native) (cause : Cause) (v : Value) (m : EngineView) → cause ≡ Raises v → IfOk o (λ same. same ≡ v) → IfOk o (λ same. IsMade m.heap same) → IfOk o (λ value. Failed f cause value m m)
-owns (Ok value) f cause v m is same made = fails_own f cause v value m is same made
-owns (Err e) f cause v m is same made = same
+pub owns : {E : Type 0} (o : Result Value E) (f : Native) (cause : Cause) (v : Value) (m : EngineView) → cause ≡ Raises v → IfOk o (λ same. same ≡ v) → IfOk o (λ same. IsMade m.heap same) → AreFit m → IfOk o (λ value. Failed f cause value m m)
+owns (Ok value) f cause v m is same made fit = fails_own f cause v value m is same made fit
+owns (Err e) f cause v m is same made fit = same

@@ -3,7 +3,7 @@ use Rattle.std.proofs.Common.{◌≡◌, ℕ, zero, suc, ◌+◌, List, [], ◌�
 use Rattle.std.specs.Prelude.{Result, Ok, Err, IfOk}
 use Rattle.std.proofs.lemmas.Option.{none-some, same_Some}
 use Rattle.std.proofs.lemmas.List.{append-nil, append_assoc, length-append}
-use Rattle.lua_meaning.specs.Message.{Ask}
+use Rattle.lua_machine.specs.Past.{Past}
 use Rattle.lua_code.specs.Instr as i
 use Rattle.lua_code.specs.Instr.{instrs_of, list_of}
 use Rattle.lua_code.specs.declared.constant.Constant.{Constant}
@@ -14,10 +14,9 @@ use Rattle.lua_code.specs.Natives.{Program}
 use Rattle.lua_code.specs.Act as act
 use Rattle.lua_machine.specs.View.{EngineView, protos_at, no_proto, code_of, run_of, frames_of, registers_of, state_of, config_of}
 use Rattle.lua_machine.specs.declared.status.Status.{Status}
-use Rattle.lua_machine.specs.declared.status.Status.TheVariants.{Goes, NoTick, Serves, Raises, Ends, NotYet}
 use Rattle.lua_machine.specs.Ready.{IsReady, IsReadyFor}
-use Rattle.lua_machine.specs.Runs.{StandsBefore, Steps}
-use Rattle.lua_machine.specs.Does.{site_or, made_before, instr_of, step_at, step_as, IsElsewhere, IsKept, Takes}
+use Rattle.lua_machine.specs.Runs.{Steps}
+use Rattle.lua_machine.specs.Does.{site_or, made_before, instr_of, step_at, Takes}
 use Rattle.lua_machine.proofs.Keeping.{get_in, sound_here}
 
 -- ---- a function among those of its chunk
@@ -104,22 +103,14 @@ module _ (m : EngineView) (r : IsReady m) (x : Instr) (next : slice_get m.proto.
       ∙ instr_is m.proto.constants (made_before m) m.proto.instrs m.proto.sites m.pc x (sound_here m r).held.sites next
 
   -- a step of the definitions' machine is that instruction
-  pub stepped : (program : Program) (asks : List Ask) → act.act program (config_of asks m) ≡ step_at x asks m
-  stepped program asks = ap (λ (o : Option i.Instr). act.act_at (run_of m) (frames_of m) (registers_of m) (state_of asks m) o) fetched
+  pub stepped : (program : Program) (past : Past) → act.act program (config_of past m) ≡ step_at x past m
+  stepped program past = ap (λ (o : Option i.Instr). act.act_at (run_of m) (frames_of m) (registers_of m) (state_of past m) o) fetched
 
 -- what an instruction takes is what a step takes
 module _ (m new : EngineView) (r : IsReady m) (x : Instr) (ready : IsReadyFor x m) where
-  kept_so : (status : Status) → IsKept (IsElsewhere x m) status m new → IsKept (StandsBefore m) status m new
-  kept_so Goes kept = kept
-  kept_so NoTick kept = kept
-  kept_so (Serves f) kept = kept
-  kept_so (Raises v) kept = kept
-  kept_so Ends kept = kept
-  kept_so NotYet kept = (record { instr = x; next = ready.next; elsewhere = kept.0 }, kept.1)
-
   pub steps_of : {E : Type 0} (o : Result Status E) → IfOk o (λ status. Takes x status m new) → IfOk o (λ status. Steps status m new)
   steps_of (Ok status) t = λ program. record {
-    step = λ asks. stepped m r x ready.next program asks ∙ t.step asks ∙ ap (step_as status asks new) (sym (stepped m r x ready.next program asks));
-    kept = kept_so status t.kept;
+    step = λ past. stepped m r x ready.next program past ∙ t.step past;
+    kept = t.kept;
   }
   steps_of (Err e) t = t

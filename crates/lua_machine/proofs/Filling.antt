@@ -149,28 +149,28 @@ module _ (e m : EngineView) (seen : e ≡ m) (h : HeapView) where
       (subst (λ (y : EngineView). Becomes e.heap h (raw_change id key v y)) seen b) more
 
 -- a key that is nil
-pub raw_raises : (m new : EngineView) (id : ℕ) (key v error : Value) → key ≡ Nil → Raised (codes "table index is nil") error m new → EachTakes (raw_step id key v m) ⊥ (Raises error) m new
-raw_raises m new id key v error is raised x r leads does yet =
+pub raw_raises : (m new : EngineView) (id : ℕ) (key v error : Value) → key ≡ Nil → Raised (codes "table index is nil") error m new → EachTakes (raw_step id key v m) (Raises error) m new
+raw_raises m new id key v error is raised x r leads does =
     takes_raised x m r new (codes "table index is nil") error raised
-    (λ asks. does asks ∙ ap (λ (k : Value). raw_step id k v m asks) is)
+    (λ past. does past ∙ ap (λ (k : Value). raw_step id k v m past) is)
 
 -- another one
-pub raw_takes : (m new : EngineView) (id : ℕ) (key v : Value) → (key ≡ Nil → ⊥) → HasStored (raw_change id key v m) m new → EachTakes (raw_step id key v m) ⊥ Goes m new
-raw_takes m new id key v some stored x r leads does yet =
+pub raw_takes : (m new : EngineView) (id : ℕ) (key v : Value) → (key ≡ Nil → ⊥) → HasStored (raw_change id key v m) m new → EachTakes (raw_step id key v m) Goes m new
+raw_takes m new id key v some stored x r leads does =
     takes_stored x m r new (raw_change id key v m) stored leads
-    (λ asks. does asks ∙ raw_so (run_of m) (frames_of m) (registers_of m) (state_of asks m) (site_at m.proto m.pc) m.heap.texts id key (value_view m.heap.texts v) some)
+    (λ past. does past ∙ raw_so (run_of m) (frames_of m) (registers_of m) (state_of past m) (site_at m.proto m.pc) m.heap.texts id key (value_view m.heap.texts v) some)
 
 -- a slot that is a table
-pub field_takes : {E : Type 0} (m new : EngineView) (table id : ℕ) (w key v : Value) (o : Result Status E) → w ≡ value_at m.values (m.base + table) → w ≡ Table id → IfOk o (λ status. EachTakes (raw_step id key v m) ⊥ status m new) → IfOk o (λ status. EachTakes (new_field_step table key v m) ⊥ status m new)
+pub field_takes : {E : Type 0} (m new : EngineView) (table id : ℕ) (w key v : Value) (o : Result Status E) → w ≡ value_at m.values (m.base + table) → w ≡ Table id → IfOk o (λ status. EachTakes (raw_step id key v m) status m new) → IfOk o (λ status. EachTakes (new_field_step table key v m) status m new)
 field_takes m new table id w key v (Err e) is is_table each = each
-field_takes m new table id w key v (Ok status) is is_table each = λ x r leads does yet. each x r leads (λ asks. does asks ∙ ap (λ (y : Value). act.sets_new (run_of m) (frames_of m) (registers_of m) (state_of asks m) (site_at m.proto m.pc) (value_view m.heap.texts y) (value_view m.heap.texts key) (value_view m.heap.texts v)) (sym is ∙ is_table)) yet
+field_takes m new table id w key v (Ok status) is is_table each = λ x r leads does. each x r leads (λ past. does past ∙ ap (λ (y : Value). act.sets_new (run_of m) (frames_of m) (registers_of m) (state_of past m) (site_at m.proto m.pc) (value_view m.heap.texts y) (value_view m.heap.texts key) (value_view m.heap.texts v)) (sym is ∙ is_table))
 
 -- another slot
-pub field_passes : (m new : EngineView) (table : ℕ) (w key v : Value) → w ≡ value_at m.values (m.base + table) → ((id : ℕ) → w ≡ Table id → ⊥) → new ≡ at_pc m (m.pc + 1) → EachTakes (new_field_step table key v m) ⊥ Goes m new
-field_passes m new table w key v is other same x r leads does yet =
+pub field_passes : (m new : EngineView) (table : ℕ) (w key v : Value) → w ≡ value_at m.values (m.base + table) → ((id : ℕ) → w ≡ Table id → ⊥) → new ≡ at_pc m (m.pc + 1) → EachTakes (new_field_step table key v m) Goes m new
+field_passes m new table w key v is other same x r leads does =
     subst (Takes x Goes m) (sym same)
     (takes_jump x m r (m.pc + 1) m.ticks leads
-    (λ asks.
-    does asks
-    ∙ ap (λ (y : Value). act.sets_new (run_of m) (frames_of m) (registers_of m) (state_of asks m) (site_at m.proto m.pc) (value_view m.heap.texts y) (value_view m.heap.texts key) (value_view m.heap.texts v)) (sym is)
-    ∙ new_passes (run_of m) (frames_of m) (registers_of m) (state_of asks m) (site_at m.proto m.pc) m.heap.texts w (value_view m.heap.texts key) (value_view m.heap.texts v) other))
+    (λ past.
+    does past
+    ∙ ap (λ (y : Value). act.sets_new (run_of m) (frames_of m) (registers_of m) (state_of past m) (site_at m.proto m.pc) (value_view m.heap.texts y) (value_view m.heap.texts key) (value_view m.heap.texts v)) (sym is)
+    ∙ new_passes (run_of m) (frames_of m) (registers_of m) (state_of past m) (site_at m.proto m.pc) m.heap.texts w (value_view m.heap.texts key) (value_view m.heap.texts v) other))

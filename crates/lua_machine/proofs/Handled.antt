@@ -2,7 +2,7 @@
 use Rattle.std.proofs.Common.{◌≡◌, ℕ, ◌+◌, List, sym, ap, ◌∙◌, subst}
 use Rattle.std.specs.Prelude.{map, slice_get, Result, Ok, Err, IfOk}
 use Rattle.lua_meaning.specs.Value as meant
-use Rattle.lua_meaning.specs.Message.{Ask}
+use Rattle.lua_machine.specs.Past.{Past}
 use Rattle.lua_heap.specs.declared.value.Value.{Value}
 use Rattle.lua_heap.specs.Value.{value_view}
 use Rattle.lua_code.specs.State.{Registers, Step}
@@ -29,17 +29,17 @@ module _ (m : EngineView) (wants : Wants) (h : Value) (args : List Value) where
   ready values = record m { values = values; args = args }
 
   -- what is called is called from the definitions' registers
-  step_same : (values : List Value) → slots_view m.heap.texts values ≡ slots_view m.heap.texts m.values → (asks : List Ask)
-      → handling_step wants h args m asks ≡ calling_step wants h top (args_at (ready values) top 0 Args) asks (ready values)
-  step_same values same asks =
-      let called : ℕ → Registers → Step = λ cells r. calling (value_view m.heap.texts h) (map (value_view m.heap.texts) args) (calling_frames wants m) top cells r (state_of asks m) in
+  step_same : (values : List Value) → slots_view m.heap.texts values ≡ slots_view m.heap.texts m.values → (past : Past)
+      → handling_step wants h args m past ≡ calling_step wants h top (args_at (ready values) top 0 Args) past (ready values)
+  step_same values same past =
+      let called : ℕ → Registers → Step = λ cells r. calling (value_view m.heap.texts h) (map (value_view m.heap.texts) args) (calling_frames wants m) top cells r (state_of past m) in
       ap (λ (cells : ℕ). called (m.cell_base + cells) (registers_of m)) (sym (site_cells (slice_get m.proto.sites m.pc)))
       ∙ ap (λ (slots : ℕ → meant.Value). called (free_cells m) (record { slots = slots; cells = cell_at m.cells; tail = map (value_view m.heap.texts) m.tail })) (sym same)
 
   came_handled : {E : Type 0} (o : Result Status E) (values : List Value) (new : EngineView) → slots_view m.heap.texts values ≡ slots_view m.heap.texts m.values
       → IfOk o (λ status. CallsAs wants h top 0 Args status (ready values) new) → IfOk o (λ status. Handles wants h args status m new)
   came_handled (Ok status) values new same c =
-      came_as (λ asks. calling_step wants h top (args_at (ready values) top 0 Args) asks (ready values)) (handling_step wants h args m) ⊥ status (ready values) m new (step_same values same) c
+      came_as (λ past. calling_step wants h top (args_at (ready values) top 0 Args) past (ready values)) (handling_step wants h args m) status new (step_same values same) c
   came_handled (Err error) values new same c = c
 
   -- for an engine that is seen by its parts

@@ -106,6 +106,7 @@ fills_is m is now at count vs more e =
       args = is.args;
       cells = is.cells;
       chunks = is.chunks;
+      modules = is.modules;
     }
 
 -- ---- arguments that stand where they are wanted

@@ -4,7 +4,7 @@ use Rattle.std.specs.Prelude.{map, unwrap_or, if◌then◌else◌, codes, Result
 use Rattle.lua_tree.specs.Tree.{Bytes}
 use Rattle.lua_meaning.specs.Value as meant
 use Rattle.lua_meaning.specs.Value.{is_nil}
-use Rattle.lua_meaning.specs.Message.{Ask}
+use Rattle.lua_machine.specs.Past.{Past}
 use Rattle.lua_meaning.specs.Store.{handler}
 use Rattle.lua_heap.specs.declared.entries.Function.{Function}
 use Rattle.lua_heap.specs.declared.value.Value.{Value}
@@ -25,8 +25,8 @@ use Rattle.lua_machine.specs.declared.invoke.Callee.TheVariants.{Runs, Handles, 
 use Rattle.lua_machine.specs.declared.status.Status.{Status}
 use Rattle.lua_machine.specs.declared.status.Status.TheVariants.{Goes, NoTick}
 use Rattle.lua_machine.specs.View.{EngineView, value_at, slots_view, wants_view, registers_of, run_of, frames_of, made_view, state_of, config_of}
-use Rattle.lua_machine.specs.Ready.{IsReady, IsReadyFor}
-use Rattle.lua_machine.specs.Does.{site_at, step_of, step_at, step_as, at_pc, Takes}
+use Rattle.lua_machine.specs.Ready.{AreFit, IsReadyFor}
+use Rattle.lua_machine.specs.Does.{site_at, step_of, step_at, at_pc, Takes}
 use Rattle.lua_machine.specs.Arguments.{filled, behind_where, behind_of, args_at}
 use Rattle.lua_machine.specs.Callees.{callee_at, called_at}
 use Rattle.lua_machine.specs.Entering.{HasFunction, CanCall}
@@ -94,40 +94,40 @@ module _ (m : EngineView) (v h : Value) (other : IsNoFunction v) (is : value_vie
   handles_nothing p = λ args. handled args ∙ ap (λ (o : Option Callee). with_args o (value_view m.heap.texts v ∷ args)) (nothing h p)
 
 -- by what a value is
-pub runs_value : (m : EngineView) (v : Value) (id : ℕ) → v ≡ Func id → IsReady m → IsMade m.heap v → IsCallee (Runs id) v m
+pub runs_value : (m : EngineView) (v : Value) (id : ℕ) → v ≡ Func id → AreFit m → IsMade m.heap v → IsCallee (Runs id) v m
 runs_value m v id e r known =
     subst (λ (w : Value). IsCallee (Runs id) w m) (sym e) (runs_function m id (has_function m id r (subst (IsMade m.heap) e known)))
 
 pub library_value : (m : EngineView) (v : Value) (f : native.Native) → v ≡ Native f → IsCallee (Library f) v m
 library_value m v f e = λ args. ap (λ (w : Value). called_at m w args) e
 
-pub handles_value : (m : EngineView) (v h : Value) (id : ℕ) → IsNoFunction v → value_view m.heap.texts h ≡ handler (store_of m.heap) (value_view m.heap.texts v) (codes "__call") → h ≡ Func id → IsReady m → IsMade m.heap h → IsCallee (Handles id) v m
+pub handles_value : (m : EngineView) (v h : Value) (id : ℕ) → IsNoFunction v → value_view m.heap.texts h ≡ handler (store_of m.heap) (value_view m.heap.texts v) (codes "__call") → h ≡ Func id → AreFit m → IsMade m.heap h → IsCallee (Handles id) v m
 handles_value m v h id p is e r known = handles_function m v h p is id e (has_function m id r (subst (IsMade m.heap) e known))
 
 -- ---- the instructions
 
-rest_given : (m : EngineView) (asks : List Ask) (tailed : Bool) → act.rest (run_of m) (frames_of m) (registers_of m) (state_of asks m) tailed ≡ map (value_view m.heap.texts) (behind_of (behind_where tailed) m)
-rest_given m asks true = refl
-rest_given m asks false = refl
+rest_given : (m : EngineView) (past : Past) (tailed : Bool) → act.rest (run_of m) (frames_of m) (registers_of m) (state_of past m) tailed ≡ map (value_view m.heap.texts) (behind_of (behind_where tailed) m)
+rest_given m past true = refl
+rest_given m past false = refl
 
 -- a call that the running function makes
-abbrev makes : EngineView → List Ask → Wants → (at first : ℕ) → List meant.Value → (cells : ℕ) → Step
-makes m asks wants at first args cells =
-    calling (slots_view m.heap.texts m.values (m.base + at)) args (calling_frames wants m) first cells (registers_of m) (state_of asks m)
+abbrev makes : EngineView → Past → Wants → (at first : ℕ) → List meant.Value → (cells : ℕ) → Step
+makes m past wants at first args cells =
+    calling (slots_view m.heap.texts m.values (m.base + at)) args (calling_frames wants m) first cells (registers_of m) (state_of past m)
 
-invoke_step : (m : EngineView) (wants : Wants) (at count : ℕ) (tailed : Bool) (asks : List Ask) → step_of (i.invoke (site_at m.proto m.pc) (wants_view wants) at count tailed) asks m ≡ calling_step wants (value_at m.values (m.base + at)) (m.base + at + 1) (args_at m (m.base + at + 1) count (behind_where tailed)) asks m
-invoke_step m wants at count tailed asks =
-    ap (λ n. makes m asks wants at (m.base + at + 1) (row (slots_view m.heap.texts m.values) n count ++ act.rest (run_of m) (frames_of m) (registers_of m) (state_of asks m) tailed) (m.cell_base + (site_at m.proto m.pc).cells)) (let e : m.base + (at + 1) ≡ m.base + at + 1 = omega arith in e)
-    ∙ ap (λ (vs : List meant.Value). makes m asks wants at (m.base + at + 1) (row (slots_view m.heap.texts m.values) (m.base + at + 1) count ++ vs) (m.cell_base + (site_at m.proto m.pc).cells)) (rest_given m asks tailed)
-    ∙ ap (λ n. makes m asks wants at (m.base + at + 1) (args_at m (m.base + at + 1) count (behind_where tailed)) (m.cell_base + n)) (sym (site_cells (slice_get m.proto.sites m.pc)))
+invoke_step : (m : EngineView) (wants : Wants) (at count : ℕ) (tailed : Bool) (past : Past) → step_of (i.invoke (site_at m.proto m.pc) (wants_view wants) at count tailed) past m ≡ calling_step wants (value_at m.values (m.base + at)) (m.base + at + 1) (args_at m (m.base + at + 1) count (behind_where tailed)) past m
+invoke_step m wants at count tailed past =
+    ap (λ n. makes m past wants at (m.base + at + 1) (row (slots_view m.heap.texts m.values) n count ++ act.rest (run_of m) (frames_of m) (registers_of m) (state_of past m) tailed) (m.cell_base + (site_at m.proto m.pc).cells)) (let e : m.base + (at + 1) ≡ m.base + at + 1 = omega arith in e)
+    ∙ ap (λ (vs : List meant.Value). makes m past wants at (m.base + at + 1) (row (slots_view m.heap.texts m.values) (m.base + at + 1) count ++ vs) (m.cell_base + (site_at m.proto m.pc).cells)) (rest_given m past tailed)
+    ∙ ap (λ n. makes m past wants at (m.base + at + 1) (args_at m (m.base + at + 1) count (behind_where tailed)) (m.cell_base + n)) (sym (site_cells (slice_get m.proto.sites m.pc)))
 
 module _ {E : Type 0} (m new : EngineView) (at count : ℕ) (tailed : Bool) (o : Result Status E) where
   takes_slot : (to : ℕ) (o : Result Status E) → IfOk o (λ status. CallsAs (ToSlot to) (value_at m.values (m.base + at)) (m.base + at + 1) count (behind_where tailed) status m new) → IfOk o (λ status. Takes (Invoke to at count tailed) status m new)
-  takes_slot to (Ok status) c = record { step = λ asks. invoke_step m (ToSlot to) at count tailed asks ∙ c.step asks ∙ ap (step_as status asks new) (sym (invoke_step m (ToSlot to) at count tailed asks)); kept = c.kept }
+  takes_slot to (Ok status) c = record { step = λ past. invoke_step m (ToSlot to) at count tailed past ∙ c.step past; kept = c.kept }
   takes_slot to (Err e) c = c
 
   takes_tail : (o : Result Status E) → IfOk o (λ status. CallsAs ToTail (value_at m.values (m.base + at)) (m.base + at + 1) count (behind_where tailed) status m new) → IfOk o (λ status. Takes (InvokeAll at count tailed) status m new)
-  takes_tail (Ok status) c = record { step = λ asks. invoke_step m ToTail at count tailed asks ∙ c.step asks ∙ ap (step_as status asks new) (sym (invoke_step m ToTail at count tailed asks)); kept = c.kept }
+  takes_tail (Ok status) c = record { step = λ past. invoke_step m ToTail at count tailed past ∙ c.step past; kept = c.kept }
   takes_tail (Err e) c = c
 
   module _ (v : Value) (first : ℕ) (behind : Behind) (is_value : v ≡ value_at m.values (m.base + at)) (is_first : first ≡ m.base + at + 1) (is_behind : behind ≡ behind_where tailed) where
@@ -160,15 +160,15 @@ takes_spread m from count tailed behind r is =
     let slots : m.base + (from + count) ≤ length m.values = r.slots in
     let long = filled_long m.values (m.base + from) count (behind_of behind m) in
     record {
-      step = λ asks.
-          ap (λ (vs : List meant.Value). spreads asks (put_values (slots_view m.heap.texts m.values) (m.base + from) count vs)) (rest_given m asks tailed)
-          ∙ ap (λ (b : Behind). spreads asks (put_values (slots_view m.heap.texts m.values) (m.base + from) count (map (value_view m.heap.texts) (behind_of b m)))) (sym is)
-          ∙ ap (λ (s : ℕ → meant.Value). spreads asks s) (sym (slots_filled m.heap.texts m.values (m.base + from) count (behind_of behind m) (omega (arith, slots))));
+      step = λ past.
+          ap (λ (vs : List meant.Value). spreads past (put_values (slots_view m.heap.texts m.values) (m.base + from) count vs)) (rest_given m past tailed)
+          ∙ ap (λ (b : Behind). spreads past (put_values (slots_view m.heap.texts m.values) (m.base + from) count (map (value_view m.heap.texts) (behind_of b m)))) (sym is)
+          ∙ ap (λ (s : ℕ → meant.Value). spreads past s) (sym (slots_filled m.heap.texts m.values (m.base + from) count (behind_of behind m) (omega (arith, slots))));
       kept = goes_on m (record m { values = filled m.values (m.base + from) count (behind_of behind m); pc = m.pc + 1 }) (cells_at m.proto m.pc) r.ready r.ready.fit.chunks (stays_at m (filled m.values (m.base + from) count (behind_of behind m)) (m.pc + 1) m.ticks (omega (arith, long))) r.cells r.leads;
     }
   where
-    spreads : List Ask → (ℕ → meant.Value) → Step
-    spreads asks s = on (record { active = (config_of asks (at_pc m (m.pc + 1))).active; frames = frames_of m; registers = record { slots = s; cells = (registers_of m).cells; tail = (registers_of m).tail }; state = state_of asks m })
+    spreads : Past → (ℕ → meant.Value) → Step
+    spreads past s = on (record { active = (config_of past (at_pc m (m.pc + 1))).active; frames = frames_of m; registers = record { slots = s; cells = (registers_of m).cells; tail = (registers_of m).tail }; state = state_of past m })
 
 -- ---- generic loops
 
@@ -177,20 +177,20 @@ not_nil texts Nil other = absurd (other refl)
 not_nil texts v other = refl
 
 module _ (m : EngineView) (at count : ℕ) (r : IsReadyFor (EachNext at count) m) where
-  abbrev each_as : (v : Value) (asks : List Ask) → Step
-  each_as v asks = act.each (run_of m) (frames_of m) (registers_of m) (state_of asks m) at count (value_view m.heap.texts v)
+  abbrev each_as : (v : Value) (past : Past) → Step
+  each_as v past = act.each (run_of m) (frames_of m) (registers_of m) (state_of past m) at count (value_view m.heap.texts v)
 
-  each_step : (v : Value) → v ≡ value_at m.values (m.base + (at + 3)) → (asks : List Ask) → step_at (EachNext at count) asks m ≡ each_as v asks
-  each_step v is asks = ap (λ (w : Value). each_as w asks) (sym is)
+  each_step : (v : Value) → v ≡ value_at m.values (m.base + (at + 3)) → (past : Past) → step_at (EachNext at count) past m ≡ each_as v past
+  each_step v is past = ap (λ (w : Value). each_as w past) (sym is)
 
   pub each_ends : (v : Value) → v ≡ value_at m.values (m.base + (at + 3)) → v ≡ Nil → Takes (EachNext at count) Goes m (record m { pc = m.pc + 1; ticks = m.ticks })
-  each_ends v is none = takes_jump (EachNext at count) m r (m.pc + 1) m.ticks r.leads.0 (λ asks. each_step v is asks ∙ ap (λ (w : Value). each_as w asks) none)
+  each_ends v is none = takes_jump (EachNext at count) m r (m.pc + 1) m.ticks r.leads.0 (λ past. each_step v is past ∙ ap (λ (w : Value). each_as w past) none)
 
-  abbrev turn : (v : Value) → List Ask → Bool → Step
-  turn v asks b = if b then on (config_of asks (at_pc m (m.pc + 1))) else ticking m.ticks (state_of asks m) (λ st. act.going (run_of m) (frames_of m) (registers_of m) (state_of asks m) (m.pc - count) (put_slot (registers_of m) (m.base + at + 2) (value_view m.heap.texts v)) st)
+  abbrev turn : (v : Value) → Past → Bool → Step
+  turn v past b = if b then on (config_of past (at_pc m (m.pc + 1))) else ticking m.ticks (state_of past m) (λ st. act.going (run_of m) (frames_of m) (registers_of m) (state_of past m) (m.pc - count) (put_slot (registers_of m) (m.base + at + 2) (value_view m.heap.texts v)) st)
 
   pub each_waits : (v : Value) → v ≡ value_at m.values (m.base + (at + 3)) → (v ≡ Nil → ⊥) → m.ticks ≡ 0 → Takes (EachNext at count) NoTick m m
-  each_waits v is some none = record { step = λ asks. each_step v is asks ∙ ap (turn v asks) (not_nil m.heap.texts v some) ∙ no_tick m.ticks (state_of asks m) _ none; kept = tt }
+  each_waits v is some none = record { step = λ past. each_step v is past ∙ ap (turn v past) (not_nil m.heap.texts v some) ∙ no_tick m.ticks (state_of past m) _ none; kept = tt }
 
   pub each_goes : (v : Value) → v ≡ value_at m.values (m.base + (at + 3)) → (v ≡ Nil → ⊥) → 0 < m.ticks → Takes (EachNext at count) Goes m (record m { values = set m.values (m.base + at + 2) v; pc = m.pc - count; ticks = m.ticks - 1 })
   each_goes v is some left =
@@ -198,8 +198,8 @@ module _ (m : EngineView) (at count : ℕ) (r : IsReadyFor (EachNext at count) m
       takes_turned (EachNext at count) m r (record m { values = set m.values (m.base + at + 2) v; pc = m.pc - count; ticks = m.ticks - 1 }) (m.pc - count) (m.pc + 1)
       (record { values = set m.values (m.base + at + 2) v; pc = m.pc - count; ticks = m.ticks - 1; is = refl; long = length_set m.values (m.base + at + 2) v; place = inl refl })
       r.leads.2 r.leads.0
-      (λ asks.
-      each_step v is asks
-      ∙ ap (turn v asks) (not_nil m.heap.texts v some)
-      ∙ ticking_one m.ticks (state_of asks m) _ left
-      ∙ ap (λ (s : ℕ → meant.Value). on (record { active = (config_of asks (at_pc m (m.pc - count))).active; frames = frames_of m; registers = record { slots = s; cells = (registers_of m).cells; tail = (registers_of m).tail }; state = state_of asks (record m { ticks = m.ticks - 1 }) })) (slots_set m.heap.texts m.values (m.base + at + 2) v (omega (arith, slots))))
+      (λ past.
+      each_step v is past
+      ∙ ap (turn v past) (not_nil m.heap.texts v some)
+      ∙ ticking_one m.ticks (state_of past m) _ left
+      ∙ ap (λ (s : ℕ → meant.Value). on (record { active = (config_of past (at_pc m (m.pc - count))).active; frames = frames_of m; registers = record { slots = s; cells = (registers_of m).cells; tail = (registers_of m).tail }; state = state_of past (record m { ticks = m.ticks - 1 }) })) (slots_set m.heap.texts m.values (m.base + at + 2) v (omega (arith, slots))))

@@ -1,8 +1,9 @@
 -- An engine that is ready has what its next instruction names, and stays ready.
-use Rattle.std.proofs.Common.{◌≡◌, ℕ, zero, suc, ◌+◌, ◌<◌, ◌≤◌, List, [], ◌∷◌, length, refl, sym, ap, ◌∙◌, subst, Some, slice_get, arith}
-use Rattle.std.specs.Prelude.{unwrap_or, map}
+use Rattle.std.proofs.Common.{◌≡◌, ℕ, zero, suc, ◌+◌, ◌<◌, ◌≤◌, List, [], ◌∷◌, ◌++◌, length, refl, sym, ap, ◌∙◌, subst, Some, slice_get, arith}
+use Rattle.std.specs.Prelude.{unwrap_or, map, reverse}
 use Rattle.std.specs.List.{AllByRecursion}
 use Rattle.std.proofs.lemmas.Option.{none-some, same_Some}
+use Rattle.std.proofs.lemmas.List.{reverse-append}
 use Rattle.lua_tree.specs.Tree.{Bytes}
 use Rattle.lua_heap.specs.declared.value.Value.{Value}
 use Rattle.lua_heap.specs.Value.{value_view}
@@ -15,11 +16,13 @@ use Rattle.lua_code.specs.Within.{IsWithin}
 use Rattle.lua_code.specs.Valid.{Leads, Reaches, Uses, IsFine, IsSound, IsSoundOf, AreValid, instr_at, cells_at, cells_behind}
 use Rattle.lua_machine.specs.declared.frame.Wants.{Wants}
 use Rattle.lua_machine.specs.declared.frame.Wants.TheVariants.{ToSlot, TruthTo, UntruthTo, ToTail, Nothing}
+use Rattle.lua_machine.specs.declared.frame.Role.{Role}
+use Rattle.lua_machine.specs.declared.frame.Role.TheVariants.{Waits, Serves}
 use Rattle.lua_machine.specs.declared.frame.Frame.{Frame}
 use Rattle.lua_machine.specs.declared.chunk.Chunk.{Chunk}
 use Rattle.lua_machine.specs.View.{EngineView, protos_at, proto_at, no_proto}
-use Rattle.lua_machine.specs.Made.{AreMade, IsMadeChunk}
-use Rattle.lua_machine.specs.Ready.{IsPlaced, WantsFit, IsWaiting, IsCode, IsLoaded, AreFit, IsReady, IsReadyFor, Stays}
+use Rattle.lua_machine.specs.Made.{AreMade, IsMadeChunk, IsEngine}
+use Rattle.lua_machine.specs.Ready.{IsPlaced, WantsFit, IsWaitingAs, IsWaiting, IsCode, IsLoaded, AreFit, IsReady, IsReadyFor, Stays}
 
 -- ---- lists
 
@@ -37,6 +40,14 @@ module _ {A : Type 0} where
   pub weaker : (P Q : A → Type 0) (xs : List A) → ((x : A) → P x → Q x) → AllByRecursion P xs → AllByRecursion Q xs
   weaker P Q [] f all = tt
   weaker P Q (x ∷ xs) f all = (f x all.0, weaker P Q xs f all.1)
+
+  all_append : (P : A → Type 0) (xs ys : List A) → AllByRecursion P xs → AllByRecursion P ys → AllByRecursion P (xs ++ ys)
+  all_append P [] ys a b = b
+  all_append P (x ∷ xs) ys a b = (a.0, all_append P xs ys a.1 b)
+
+  pub all_reversed : (P : A → Type 0) (xs : List A) → AllByRecursion P xs → AllByRecursion P (reverse xs)
+  all_reversed P [] all = tt
+  all_reversed P (x ∷ xs) all = subst (AllByRecursion P) (sym (reverse-append (x ∷ []) xs)) (all_append P (reverse xs) (x ∷ []) (all_reversed P xs all.1) (all.0, tt))
 
 -- ---- code that was loaded
 
@@ -105,14 +116,21 @@ wants_more base slots more (UntruthTo n) le fits = omega (arith, le, fits)
 wants_more base slots more ToTail le fits = tt
 wants_more base slots more Nothing le fits = tt
 
-pub waiting_more : (chunks : List Chunk) (slots more cells further : ℕ) → slots ≤ more → cells ≤ further → (f : Frame) → IsWaiting chunks slots cells f → IsWaiting chunks more further f
-waiting_more chunks slots more cells further le lf f w =
+more_as : (chunks : List Chunk) (slots more cells further : ℕ) → slots ≤ more → cells ≤ further → (f : Frame) (role : Role) → IsWaitingAs role chunks slots cells f → IsWaitingAs role chunks more further f
+more_as chunks slots more cells further le lf f (Waits wants) w =
     let s = w.placed.room in
     let c = w.placed.height in
     record {
       placed = record { known = w.placed.known; inside = w.placed.inside; room = omega (arith, le, s); height = omega (arith, lf, c) };
-      wants = wants_more f.base slots more f.wants le w.wants;
+      wants = wants_more f.base slots more wants le w.wants;
     }
+more_as chunks slots more cells further le lf f (Serves duty) w =
+    let s = w.0 in
+    let c = w.1 in
+    (omega (arith, le, s), omega (arith, lf, c))
+
+pub waiting_more : (chunks : List Chunk) (slots more cells further : ℕ) → slots ≤ more → cells ≤ further → (f : Frame) → IsWaiting chunks slots cells f → IsWaiting chunks more further f
+waiting_more chunks slots more cells further le lf f w = more_as chunks slots more cells further le lf f f.role w
 
 module _ (h k : HeapView) (more : Extends h k) where
   pub views_later : (vs : List Value) → AreMade h vs → map (value_view k.texts) vs ≡ map (value_view h.texts) vs
@@ -130,6 +148,15 @@ module _ (h k : HeapView) (more : Extends h k) where
   pub loaded_later : (chunks : List Chunk) → AllByRecursion (IsMadeChunk h) chunks → AllByRecursion (IsLoaded h.texts) chunks → AllByRecursion (IsLoaded k.texts) chunks
   loaded_later [] made all = tt
   loaded_later (x ∷ chunks) made all = (record { valid = all.0.valid; constants = lists_later x.constants.items made.0 ∙ all.0.constants }, loaded_later chunks made.1 all.1)
+
+-- where no function was made
+pub fit_grown : (m : EngineView) (h : HeapView) → IsEngine m → Extends m.heap h → h.functions ≡ m.heap.functions → AreFit m → AreFit (record m { heap = h })
+fit_grown m h is more functions fit =
+    record {
+      frames = fit.frames;
+      functions = subst (AllByRecursion (IsCode m.chunks)) (sym functions) fit.functions;
+      chunks = loaded_later m.heap h more m.chunks is.chunks fit.chunks;
+    }
 
 -- ---- what stays ready
 

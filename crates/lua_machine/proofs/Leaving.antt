@@ -4,24 +4,28 @@ use Rattle.std.specs.Prelude.{map, not, slice_range}
 use Rattle.lua_tree.specs.Tree.{Bytes}
 use Rattle.lua_meaning.specs.Value as meant
 use Rattle.lua_meaning.specs.Value.{first, flag, is_true}
-use Rattle.lua_meaning.specs.Message.{Ask}
+use Rattle.lua_machine.specs.Past.{Past, no_past}
 use Rattle.lua_meaning.specs.World.{given}
 use Rattle.lua_heap.specs.declared.value.Value.{Value}
 use Rattle.lua_heap.specs.declared.value.Value.TheVariants.{Bool as Flag}
 use Rattle.lua_heap.specs.Value.{value_view}
 use Rattle.lua_code.specs.Instr as i
-use Rattle.lua_code.specs.State.{row, put, Registers, Frame as Waiting, Step, on, stop, ended}
+use Rattle.lua_code.specs.State.{row, put, Registers, Frame as Waiting, Step, on}
 use Rattle.lua_code.specs.Frames.{received, finish}
 use Rattle.lua_code.specs.Act as act
 use Rattle.lua_machine.specs.declared.frame.Wants.{Wants}
 use Rattle.lua_machine.specs.declared.frame.Wants.TheVariants.{ToSlot, TruthTo, UntruthTo, ToTail, Nothing}
+use Rattle.lua_machine.specs.declared.frame.Role.TheVariants.{Waits}
 use Rattle.lua_machine.specs.declared.frame.Frame.{Frame}
+use Rattle.lua_machine.specs.declared.status.Status.TheVariants.{Gives}
+use Rattle.lua_machine.specs.Arguments as args
+use Rattle.lua_machine.specs.Arguments.{behind_where, behind_of}
 use Rattle.lua_machine.specs.View.{EngineView, slots_view, registers_of, run_of, frames_of, state_of, config_of, wants_view}
 use Rattle.lua_machine.specs.Made.{IsEngine}
-use Rattle.lua_machine.specs.Does.{step_of, Did}
+use Rattle.lua_machine.specs.Does.{step_of, step_as, Did}
 use Rattle.lua_machine.specs.Frames.{resumed, WentOn}
 use Rattle.lua_machine.specs.Ready.{WantsFit}
-use Rattle.lua_machine.specs.Results.{held_at, results_at, tail_where, received_values, truth, WantsOne, LeftOr}
+use Rattle.lua_machine.specs.Results.{held_at, results_at, tail_where, received_values, truth, WantsOne}
 use Rattle.lua_machine.proofs.Doing.{slots_set}
 use Rattle.lua_machine.proofs.Waiting.{resumed_frames}
 
@@ -47,7 +51,7 @@ held_view m n count tailed le =
     ∙ ap (λ k. map (value_view m.heap.texts) (take k (drop n m.values)) ++ map (value_view m.heap.texts) (tail_where tailed m.tail)) (let e : n + count - n ≡ count = omega arith in e)
     ∙ ap (λ vs. vs ++ map (value_view m.heap.texts) (tail_where tailed m.tail)) (row_taken m.heap.texts m.values n count le)
 
-rest_is : (m : EngineView) (tailed : Bool) → act.rest (run_of m) (frames_of m) (registers_of m) (state_of [] m) tailed ≡ map (value_view m.heap.texts) (tail_where tailed m.tail)
+rest_is : (m : EngineView) (tailed : Bool) → act.rest (run_of m) (frames_of m) (registers_of m) (state_of no_past m) tailed ≡ map (value_view m.heap.texts) (tail_where tailed m.tail)
 rest_is m true = refl
 rest_is m false = refl
 
@@ -77,55 +81,55 @@ receives m Nothing v vs one lt e = refl
 
 -- ---- the step
 
-abbrev leaves : (asks : List Ask) (m : EngineView) → List meant.Value → List Waiting → Step
-leaves asks m vs frames = finish (given vs) frames (registers_of m) (state_of asks m)
+abbrev leaves : (past : Past) (m : EngineView) → List meant.Value → List Waiting → Step
+leaves past m vs frames = finish (given vs) frames (registers_of m) (state_of past m)
 
--- what a function's end comes to, whatever the asks were
-left : (m : EngineView) (from count : ℕ) (tailed : Bool) (asks : List Ask) → step_of (i.leave from count tailed) asks m ≡ leaves asks m (results_at m (m.base + from) count tailed) (frames_of m)
-left m from count true asks = refl
-left m from count false asks = refl
+-- what a function's end comes to, whatever the past were
+left : (m : EngineView) (from count : ℕ) (tailed : Bool) (past : Past) → step_of (i.leave from count tailed) past m ≡ leaves past m (results_at m (m.base + from) count tailed) (frames_of m)
+left m from count true past = refl
+left m from count false past = refl
 
--- results go to the frame on top
-module _ (m new : EngineView) (is : IsEngine m) (f : Frame) (went : WentOn f m new) (vs : List meant.Value) (asks : List Ask) where
+-- results go to the function of Lua on top
+module _ (m new : EngineView) (is : IsEngine m) (f : Frame) (wants : Wants) (role : f.role ≡ Waits wants) (went : WentOn f m new) (vs : List meant.Value) (past : Past) where
   -- it goes on with the first one
-  pub gives_one : (v : Value) → WantsOne f.wants → WantsFit f.base (length m.values) f.wants → value_view m.heap.texts v ≡ first vs → leaves asks m vs (frames_of m) ≡ on (config_of asks (record new { values = received_values f.wants v new }))
+  pub gives_one : (v : Value) → WantsOne wants → WantsFit f.base (length m.values) wants → value_view m.heap.texts v ≡ first vs → leaves past m vs (frames_of m) ≡ on (config_of past (record new { values = received_values wants v new }))
   gives_one v one fits e =
       let x : EngineView = resumed m went.frames f in
-      ap (leaves asks m vs) (resumed_frames m is went.frames f went.were)
-      ∙ ap (λ (r : Registers). on (record { active = (config_of asks x).active; frames = frames_of x; registers = r; state = state_of asks x }))
-      (receives x f.wants v vs one fits e)
-      ∙ ap (λ (y : EngineView). on (config_of asks (record y { values = received_values f.wants v y }))) (sym went.are)
+      ap (leaves past m vs) (resumed_frames m is went.frames f went.were wants role)
+      ∙ ap (λ (r : Registers). on (record { active = (config_of past x).active; frames = frames_of x; registers = r; state = state_of past x }))
+      (receives x wants v vs one fits e)
+      ∙ ap (λ (y : EngineView). on (config_of past (record y { values = received_values wants v y }))) (sym went.are)
 
   -- or with all of them
-  pub gives_all : (tail : List Value) → ToTail ≡ f.wants → map (value_view m.heap.texts) tail ≡ vs → leaves asks m vs (frames_of m) ≡ on (config_of asks (record new { tail = tail }))
+  pub gives_all : (tail : List Value) → ToTail ≡ wants → map (value_view m.heap.texts) tail ≡ vs → leaves past m vs (frames_of m) ≡ on (config_of past (record new { tail = tail }))
   gives_all tail all e =
       let x : EngineView = resumed m went.frames f in
-      ap (leaves asks m vs) (resumed_frames m is went.frames f went.were)
-      ∙ ap (λ (w : Wants). on (record { active = (config_of asks x).active; frames = frames_of x; registers = received (wants_view w) vs x.base (registers_of x); state = state_of asks x })) (sym all)
-      ∙ ap (λ ws. on (record { active = (config_of asks x).active; frames = frames_of x; registers = record { slots = (registers_of x).slots; cells = (registers_of x).cells; tail = ws }; state = state_of asks x })) (sym e)
-      ∙ ap (λ (y : EngineView). on (config_of asks (record y { tail = tail }))) (sym went.are)
-
--- no frame waits
-pub gives_last : (m : EngineView) (vs : List meant.Value) (asks : List Ask) (tail : List Value) → m.frames ≡ [] → map (value_view m.heap.texts) tail ≡ vs → leaves asks m vs (frames_of m) ≡ stop (ended (map (value_view m.heap.texts) tail) (state_of asks m))
-gives_last m vs asks tail none e =
-    ap (λ (fs : List Frame). leaves asks m vs (frames_of (record m { frames = fs }))) none
-    ∙ ap (λ ws. stop (ended ws (state_of asks m))) (sym e)
+      ap (leaves past m vs) (resumed_frames m is went.frames f went.were wants role)
+      ∙ ap (λ (w : Wants). on (record { active = (config_of past x).active; frames = frames_of x; registers = received (wants_view w) vs x.base (registers_of x); state = state_of past x })) (sym all)
+      ∙ ap (λ ws. on (record { active = (config_of past x).active; frames = frames_of x; registers = record { slots = (registers_of x).slots; cells = (registers_of x).cells; tail = ws }; state = state_of past x })) (sym e)
+      ∙ ap (λ (y : EngineView). on (config_of past (record y { tail = tail }))) (sym went.are)
 
 -- those of a function that ends
-pub left_one : (m new : EngineView) (is : IsEngine m) (f : Frame) (from count : ℕ) (tailed : Bool) (v : Value) (went : WentOn f m new) → WantsOne f.wants → WantsFit f.base (length m.values) f.wants → value_view m.heap.texts v ≡ first (results_at m (m.base + from) count tailed) → Did (i.leave from count tailed) m (record new { values = received_values f.wants v new })
-left_one m new is f from count tailed v went one fits e asks =
-    left m from count tailed asks ∙ gives_one m new is f went (results_at m (m.base + from) count tailed) asks v one fits e
+pub left_one : (m new : EngineView) (is : IsEngine m) (f : Frame) (wants : Wants) (role : f.role ≡ Waits wants) (from count : ℕ) (tailed : Bool) (v : Value) (went : WentOn f m new) → WantsOne wants → WantsFit f.base (length m.values) wants → value_view m.heap.texts v ≡ first (results_at m (m.base + from) count tailed) → Did (i.leave from count tailed) m (record new { values = received_values wants v new })
+left_one m new is f wants role from count tailed v went one fits e past =
+    left m from count tailed past ∙ gives_one m new is f wants role went (results_at m (m.base + from) count tailed) past v one fits e
 
-pub left_all : (m new : EngineView) (is : IsEngine m) (f : Frame) (from count : ℕ) (tailed : Bool) (went : WentOn f m new) → ToTail ≡ f.wants → m.base + from + count ≤ length m.values → Did (i.leave from count tailed) m (record new { tail = held_at new (m.base + from) count tailed })
-left_all m new is f from count tailed went all le asks =
-    left m from count tailed asks
-    ∙ gives_all m new is f went (results_at m (m.base + from) count tailed) asks (held_at new (m.base + from) count tailed) all
+pub left_all : (m new : EngineView) (is : IsEngine m) (f : Frame) (wants : Wants) (role : f.role ≡ Waits wants) (from count : ℕ) (tailed : Bool) (went : WentOn f m new) → ToTail ≡ wants → m.base + from + count ≤ length m.values → Did (i.leave from count tailed) m (record new { tail = held_at new (m.base + from) count tailed })
+left_all m new is f wants role from count tailed went all le past =
+    left m from count tailed past
+    ∙ gives_all m new is f wants role went (results_at m (m.base + from) count tailed) past (held_at new (m.base + from) count tailed) all
     (ap (λ (y : EngineView). map (value_view m.heap.texts) (held_at y (m.base + from) count tailed)) went.are ∙ held_view m (m.base + from) count tailed le)
 
-pub left_last : (m : EngineView) (from count : ℕ) (tailed : Bool) → m.frames ≡ [] → m.base + from + count ≤ length m.values → LeftOr false (i.leave from count tailed) m (record m { tail = held_at m (m.base + from) count tailed })
-left_last m from count tailed none le asks =
-    left m from count tailed asks
-    ∙ gives_last m (results_at m (m.base + from) count tailed) asks (held_at m (m.base + from) count tailed) none (held_view m (m.base + from) count tailed le)
+-- those of a function whose caller isn't one of Lua
+tail_is : (tailed : Bool) (m : EngineView) → behind_of (behind_where tailed) m ≡ tail_where tailed m.tail
+tail_is true m = refl
+tail_is false m = refl
+
+pub left_given : (m : EngineView) (from count : ℕ) (tailed : Bool) → m.base + from + count ≤ length m.values → (past : Past) → step_of (i.leave from count tailed) past m ≡ step_as Gives past (record m { args = args.given m (m.base + from) count (behind_where tailed) })
+left_given m from count tailed le past =
+    left m from count tailed past
+    ∙ ap (λ (vs : List meant.Value). leaves past m vs (frames_of m)) (sym (held_view m (m.base + from) count tailed le))
+    ∙ ap (λ (vs : List Value). leaves past m (map (value_view m.heap.texts) (slice_range m.values (m.base + from) (m.base + from + count) ++ vs)) (frames_of m)) (sym (tail_is tailed m))
 
 pub one_unless : (w : Wants) → (w ≡ ToTail → ⊥) → WantsOne w
 one_unless ToTail other = other refl

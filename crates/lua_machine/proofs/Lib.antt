@@ -25,6 +25,17 @@ pub mod Invoking
 pub mod Settling
 pub mod Settings
 pub mod Served
+pub mod Delivered
+pub mod Backed
 pub mod Failing
 pub mod Handled
 pub mod Looping
+pub mod Asked
+pub mod Attended
+pub mod Shown
+pub mod Answered
+pub mod Levels
+pub mod Lined
+pub mod Passing
+pub mod Printed
+pub mod Kept

@@ -4,7 +4,7 @@ use Rattle.std.specs.Prelude.{◌==◌, if◌then◌else◌}
 use Rattle.std.specs.List.{AllByRecursion}
 use Rattle.lua_tree.specs.Tree.{Bytes}
 use Rattle.lua_meaning.specs.Value as meant
-use Rattle.lua_meaning.specs.Message.{Ask}
+use Rattle.lua_machine.specs.Past.{Past}
 use Rattle.lua_meaning.specs.Running.{is_counting}
 use Rattle.lua_heap.specs.declared.value.Value.{Value}
 use Rattle.lua_heap.specs.declared.value.Value.TheVariants.{Num}
@@ -121,35 +121,35 @@ module _ (m : EngineView) (at count : ℕ) (n k j : ℤ) (room : m.base + (at + 
   abbrev with_row : (ℕ → meant.Value) → Registers
   with_row f = record { slots = f; cells = cell_at m.cells; tail = (registers_of m).tail }
 
-  abbrev turns_from : List Ask → (ℕ → meant.Value) → Step
-  turns_from asks f = act.turns (run_of m) (frames_of m) (with_row f) (state_of asks m) at (m.pc + 1) (m.pc + 1 + count) n k j
+  abbrev turns_from : Past → (ℕ → meant.Value) → Step
+  turns_from past f = act.turns (run_of m) (frames_of m) (with_row f) (state_of past m) at (m.pc + 1) (m.pc + 1 + count) n k j
 
-  abbrev turns_on : List Ask → (ℕ → meant.Value) → Step
-  turns_on asks f =
+  abbrev turns_on : Past → (ℕ → meant.Value) → Step
+  turns_on past f =
       if is_counting n k j
-      then ticking m.ticks (state_of asks m) (λ st. act.going (run_of m) (frames_of m) (registers_of m) (state_of asks m) (m.pc + 1) (put_slot (with_row f) (m.base + at + 3) (meant.num n)) st)
-      else act.going (run_of m) (frames_of m) (registers_of m) (state_of asks m) (m.pc + 1 + count) (with_row f) (state_of asks m)
+      then ticking m.ticks (state_of past m) (λ st. act.going (run_of m) (frames_of m) (registers_of m) (state_of past m) (m.pc + 1) (put_slot (with_row f) (m.base + at + 3) (meant.num n)) st)
+      else act.going (run_of m) (frames_of m) (registers_of m) (state_of past m) (m.pc + 1 + count) (with_row f) (state_of past m)
 
-  turns_same : (asks : List Ask) → turn_of at (m.pc + 1) (m.pc + 1 + count) n k j asks m ≡ turn_of at (m.pc + 1) (m.pc + 1 + count) n k j asks mid
-  turns_same asks =
+  turns_same : (past : Past) → turn_of at (m.pc + 1) (m.pc + 1 + count) n k j past m ≡ turn_of at (m.pc + 1) (m.pc + 1 + count) n k j past mid
+  turns_same past =
       let f = slots_view m.heap.texts m.values in
-      ap (turns_on asks) (sym (triple-twice f)) ∙ ap (turns_from asks) (sym slots_mid)
+      ap (turns_on past) (sym (triple-twice f)) ∙ ap (turns_from past) (sym slots_mid)
 
-  begin_same : loop_numbers m at ≡ Ok (n, k, j) → (asks : List Ask) → step_at (ForBegin at count) asks m ≡ step_at (ForBegin at count) asks mid
-  begin_same read asks =
+  begin_same : loop_numbers m at ≡ Ok (n, k, j) → (past : Past) → step_at (ForBegin at count) past m ≡ step_at (ForBegin at count) past mid
+  begin_same read past =
       let s = site_at m.proto m.pc in
-      let begins : Option ℤ → Option ℤ → Option ℤ → Step = λ x y z. act.begins (run_of m) (frames_of m) (registers_of m) (state_of asks m) s at count x y z in
+      let begins : Option ℤ → Option ℤ → Option ℤ → Step = λ x y z. act.begins (run_of m) (frames_of m) (registers_of m) (state_of past m) s at count x y z in
       let are = three_are_read (slot_number m first) (slot_number m (first + 1)) (slot_number m (first + 2)) n k j read in
       ap (λ p. begins (slot_number m first) (slot_number m p) (slot_number m (m.base + (at + 2)))) (let e : m.base + (at + 1) ≡ first + 1 = omega arith in e)
       ∙ (ap (λ p. begins (slot_number m first) (slot_number m (first + 1)) (slot_number m p)) (let e : m.base + (at + 2) ≡ first + 2 = omega arith in e)
       ∙ (ap (λ x. begins x (slot_number m (first + 1)) (slot_number m (first + 2))) are.0
       ∙ (ap (λ y. begins (Some n) y (slot_number m (first + 2))) are.1
       ∙ (ap (λ z. begins (Some n) (Some k) z) are.2
-      ∙ (turns_same asks ∙ sym (begin_turns mid at count s n k j numbers_mid asks))))))
+      ∙ (turns_same past ∙ sym (begin_turns mid at count s n k j numbers_mid past))))))
 
   -- so a turn that begins from there is the loop's
   pub begins_read : loop_numbers m at ≡ Ok (n, k, j) → (status : Status) (new : EngineView) → Takes (ForBegin at count) status mid new → Takes (ForBegin at count) status m new
-  begins_read read status new c = came_as (λ asks. step_at (ForBegin at count) asks mid) (λ asks. step_at (ForBegin at count) asks m) ⊥ status mid m new (begin_same read) c
+  begins_read read status new c = came_as (λ past. step_at (ForBegin at count) past mid) (λ past. step_at (ForBegin at count) past m) status new (begin_same read) c
 
   pub ready_mid : IsReadyFor (ForBegin at count) m → IsReadyFor (ForBegin at count) mid
   ready_mid r =
@@ -177,9 +177,9 @@ module _ (m : EngineView) (at count : ℕ) (n k j : ℤ) (room : m.base + (at + 
 -- one of them isn't a number
 pub begins_refused : (m new : EngineView) (at count : ℕ) (text : Bytes) (error : Value) → IsReadyFor (ForBegin at count) m → loop_numbers m at ≡ Err text → Raised text error m new → Takes (ForBegin at count) (Raises error) m new
 begins_refused m new at count text error r read raised =
-    takes_raised (ForBegin at count) m r new text error raised (λ asks.
+    takes_raised (ForBegin at count) m r new text error raised (λ past.
     let s = site_at m.proto m.pc in
-    let begins : Option ℤ → Option ℤ → Option ℤ → Step = λ x y z. act.begins (run_of m) (frames_of m) (registers_of m) (state_of asks m) s at count x y z in
+    let begins : Option ℤ → Option ℤ → Option ℤ → Step = λ x y z. act.begins (run_of m) (frames_of m) (registers_of m) (state_of past m) s at count x y z in
     ap (λ p. begins (slot_number m (m.base + at)) (slot_number m p) (slot_number m (m.base + (at + 2)))) (let e : m.base + (at + 1) ≡ m.base + at + 1 = omega arith in e)
     ∙ (ap (λ p. begins (slot_number m (m.base + at)) (slot_number m (m.base + at + 1)) (slot_number m p)) (let e : m.base + (at + 2) ≡ m.base + at + 2 = omega arith in e)
-    ∙ begins_fault (run_of m) (frames_of m) (registers_of m) (state_of asks m) s at count (slot_number m (m.base + at)) (slot_number m (m.base + at + 1)) (slot_number m (m.base + at + 2)) text read))
+    ∙ begins_fault (run_of m) (frames_of m) (registers_of m) (state_of past m) s at count (slot_number m (m.base + at)) (slot_number m (m.base + at + 1)) (slot_number m (m.base + at + 2)) text read))

@@ -4,7 +4,7 @@ use Rattle.std.specs.Prelude.{◌==◌, if◌then◌else◌, map, max}
 use Rattle.std.specs.List.{AllByRecursion}
 use Rattle.std.proofs.lemmas.Bool.{eq-eqb, eqb-true}
 use Rattle.std.proofs.lemmas.List.{length-map}
-use Rattle.lua_meaning.specs.Message.{Ask}
+use Rattle.lua_machine.specs.Past.{Past}
 use Rattle.lua_meaning.specs.Store.{Store, add_cell}
 use Rattle.lua_heap.specs.declared.value.Value.{Value}
 use Rattle.lua_heap.specs.Value.{value_view}
@@ -90,6 +90,7 @@ with_cell_is m at id pc is lt =
       args = is.args;
       cells = all_with (length m.heap.cells) m.cells at id lt is.cells;
       chunks = is.chunks;
+      modules = is.modules;
     }
 
 pub put_cell_is : (m : EngineView) (at id : ℕ) → IsEngine m → id < length m.heap.cells → IsEngine (record m { cells = with_cell m.cells at id })
@@ -105,11 +106,11 @@ takes_new_cell m h cell from id v r is_value is_id b =
     let l1 = long.1 in
     let height : m.cell_base + max (cells_at m.proto m.pc) (suc cell) ≤ length (with_cell m.cells (m.cell_base + cell) id) = omega (arith, there, l0, l1) in
     record {
-      step = λ asks.
-          ap (λ (w : Value). on (with_all asks (put (cell_at m.cells) (m.cell_base + cell) (length (map (value_view m.heap.texts) m.heap.cells))) (add_cell (store_of m.heap) (value_view m.heap.texts w)))) (sym is_value)
-          ∙ ap (λ n. on (with_all asks (put (cell_at m.cells) (m.cell_base + cell) n) (add_cell (store_of m.heap) (value_view m.heap.texts v)))) (length-map m.heap.cells (value_view m.heap.texts) ∙ sym is_id)
-          ∙ ap (λ (cells : ℕ → ℕ). on (with_all asks cells (add_cell (store_of m.heap) (value_view m.heap.texts v)))) (cells_put m.cells (m.cell_base + cell) id le)
-          ∙ ap on (sym (becomes_config (record m { cells = with_cell m.cells (m.cell_base + cell) id; pc = m.pc + 1 }) h (λ s. add_cell s (value_view m.heap.texts v)) asks b));
+      step = λ past.
+          ap (λ (w : Value). on (with_all past (put (cell_at m.cells) (m.cell_base + cell) (length (map (value_view m.heap.texts) m.heap.cells))) (add_cell (store_of m.heap) (value_view m.heap.texts w)))) (sym is_value)
+          ∙ ap (λ n. on (with_all past (put (cell_at m.cells) (m.cell_base + cell) n) (add_cell (store_of m.heap) (value_view m.heap.texts v)))) (length-map m.heap.cells (value_view m.heap.texts) ∙ sym is_id)
+          ∙ ap (λ (cells : ℕ → ℕ). on (with_all past cells (add_cell (store_of m.heap) (value_view m.heap.texts v)))) (cells_put m.cells (m.cell_base + cell) id le)
+          ∙ ap on (sym (becomes_config (record m { cells = with_cell m.cells (m.cell_base + cell) id; pc = m.pc + 1 }) h (λ s. add_cell s (value_view m.heap.texts v)) past b));
       kept = goes_on m (record m { heap = h; cells = with_cell m.cells (m.cell_base + cell) id; pc = m.pc + 1 }) (max (cells_at m.proto m.pc) (suc cell)) r.ready (subst (λ (texts : List Bytes). AllByRecursion (IsLoaded texts) m.chunks) (sym b.texts) r.ready.fit.chunks)
           (record {
             chunks = refl;
@@ -125,12 +126,12 @@ takes_new_cell m h cell from id v r is_value is_id b =
           }) height r.leads;
     }
   where
-    with_all : List Ask → (ℕ → ℕ) → Store → Config
-    with_all asks cells s = record {
-      active = (config_of asks (at_pc m (m.pc + 1))).active;
+    with_all : Past → (ℕ → ℕ) → Store → Config
+    with_all past cells s = record {
+      active = (config_of past (at_pc m (m.pc + 1))).active;
       frames = frames_of m;
       registers = record { slots = (registers_of m).slots; cells = cells; tail = (registers_of m).tail };
-      state = state_in m.heap.functions s asks m;
+      state = state_in m.heap.texts m.heap.functions s past m;
     }
 
 -- the same, where the engine is seen through its fields

@@ -1,5 +1,5 @@
 -- The value of an error.
-use Rattle.std.proofs.Common.{◌≡◌, ℕ, zero, suc, ◌<◌, List, [], ◌∷◌, length, refl, sym, ap, ◌∙◌, Some, slice_get, get_or, arith}
+use Rattle.std.proofs.Common.{◌≡◌, ℕ, zero, suc, ◌<◌, List, [], ◌∷◌, length, refl, sym, ap, ◌∙◌, subst, Some, slice_get, get_or, arith}
 use Rattle.std.specs.Prelude.{unwrap_or}
 use Rattle.lua_tree.specs.Tree.{Bytes}
 use Rattle.lua_meaning.specs.Value as meant
@@ -10,10 +10,10 @@ use Rattle.lua_code.specs.Instr as i
 use Rattle.lua_code.specs.declared.instr.Site.{Site}
 use Rattle.lua_machine.specs.View.{EngineView, protos_at, no_proto, code_of, config_of}
 use Rattle.lua_machine.specs.Made.{IsEngine}
-use Rattle.lua_machine.specs.Ready.{IsReady}
+use Rattle.lua_machine.specs.Ready.{AreFit, IsReady}
 use Rattle.lua_machine.specs.Does.{site_or, site_at}
 use Rattle.lua_machine.specs.Errors.{Raised}
-use Rattle.lua_machine.proofs.Keeping.{get_in, sound_here, inside}
+use Rattle.lua_machine.proofs.Keeping.{get_in, sound_here, inside, fit_grown}
 use Rattle.lua_machine.proofs.Fetching.{code_is}
 use Rattle.lua_machine.proofs.Growing.{grown}
 
@@ -44,5 +44,6 @@ raised_of e m seen is r h id line text there made at more store functions =
           ∙ ap (λ (file : Bytes). meant.str (placed (Some (record { file = file; line = line })) text)) (sym (file_is m r))
           ∙ ap (λ n. meant.str (placed (Some (record { file = i.file_of (code_of m.chunks m.chunk m.func); line = n })) text)) at;
       made = made;
-      same = λ asks. grown e h is more store functions asks ∙ ap (λ (v : EngineView). config_of asks v) seen;
+      same = λ past. grown e h is more store functions past ∙ ap (λ (v : EngineView). config_of past v) seen;
+      fit = fit_grown e h is more functions (subst AreFit (sym seen) r.fit);
     }

@@ -1,10 +1,9 @@
 -- What a function of the library comes to is a step of the definitions' machine.
 use Rattle.std.proofs.Common.{◌≡◌, ℕ, List, Bool, true, false, refl, sym, ap, ◌∙◌, subst, Some}
 use Rattle.std.specs.Prelude.{IsTrue, IsFalse, Result, Ok, Err}
-use Rattle.std.specs.List.{AllByRecursion}
 use Rattle.lua_meaning.specs.Native as native
 use Rattle.lua_meaning.specs.Value as meant
-use Rattle.lua_meaning.specs.Message.{Ask}
+use Rattle.lua_machine.specs.Past.{Past}
 use Rattle.lua_meaning.specs.World.{given}
 use Rattle.lua_meaning.specs.Fault.{fault_value}
 use Rattle.lua_meaning.specs.Calls.{caller}
@@ -28,15 +27,15 @@ use Rattle.lua_code.specs.Frames.{places, finish, raised}
 use Rattle.lua_code.specs.Natives.{Program, serves_as, by_library, answered, gives}
 use Rattle.lua_code.specs.Act.{act}
 use Rattle.lua_machine.specs.declared.status.Status.{Status}
-use Rattle.lua_machine.specs.declared.status.Status.TheVariants.{Raises}
+use Rattle.lua_machine.specs.declared.status.Status.TheVariants.{Gives, Raises}
 use Rattle.lua_machine.specs.View.{EngineView, frames_in, frames_of, registers_in, registers_of, state_in, state_of, config_of, serving_config}
 use Rattle.lua_machine.specs.Made.{IsEngine}
-use Rattle.lua_machine.specs.Ready.{IsCode, AreFit}
-use Rattle.lua_machine.specs.Serving.{giving_step, Delivers, Failed, ServedOr}
+use Rattle.lua_machine.specs.Ready.{AreFit}
+use Rattle.lua_machine.specs.Serving.{Failed, ServedOr}
+use Rattle.lua_machine.specs.Does.{step_as}
 use Rattle.lua_machine.proofs.Doing.{later_at}
-use Rattle.lua_machine.proofs.Keeping.{loaded_later}
-use Rattle.lua_machine.proofs.Growing.{same_frames_of, same_registers, grown}
-use Rattle.lua_machine.proofs.Called.{came_as}
+use Rattle.lua_machine.proofs.Keeping.{fit_grown}
+use Rattle.lua_machine.proofs.Growing.{same_frames_of, same_registers, same_state, grown}
 
 -- ---- a function that is there is the meaning's
 
@@ -76,55 +75,53 @@ module _ (m : EngineView) (is : IsEngine m) (fit : AreFit m) (f : Native) (h : H
   -- what was made later leaves it fit
   pub later_fit : (args : List Value) → AreFit (record m { heap = h; args = args })
   later_fit args =
-      record {
-        frames = fit.frames;
-        functions = subst (AllByRecursion (IsCode m.chunks)) (sym functions) fit.functions;
-        chunks = loaded_later m.heap h more m.chunks is.chunks fit.chunks;
-      }
+      let later = fit_grown m h is more functions fit in
+      record { frames = later.frames; functions = later.functions; chunks = later.chunks }
 
   abbrev answer : Answer (List meant.Value)
   answer = library (native_view f) (values_of m.heap m.args) (store_of m.heap)
 
-  module _ (here : IsTrue (is_here (native_view f))) (program : Program) (asks : List Ask) where
+  module _ (here : IsTrue (is_here (native_view f))) (program : Program) (past : Past) where
     abbrev answers_so : Answer (List meant.Value) → Step
-    answers_so a = answered program m.base m.cell_base (frames_of m) (registers_of m) (native_view f) a (state_of asks m) (gives program m.base m.cell_base (frames_of m) (registers_of m))
+    answers_so a = answered program m.base m.cell_base (frames_of m) (registers_of m) (native_view f) a (state_of past m) (gives program m.base m.cell_base (frames_of m) (registers_of m))
 
-    served_as : (a : Answer (List meant.Value)) → answer ≡ a → act program (serving_config f asks m) ≡ answers_so a
+    served_as : (a : Answer (List meant.Value)) → answer ≡ a → act program (serving_config f past m) ≡ answers_so a
     served_as a e =
-        served_here program m.base m.cell_base (frames_of m) (registers_of m) (native_view f) (values_of m.heap m.args) (state_of asks m) here
+        served_here program m.base m.cell_base (frames_of m) (registers_of m) (native_view f) (values_of m.heap m.args) (state_of past m) here
         ∙ ap answers_so e
 
     -- its values are the results
-    values_step : (values : List Value) → answer ≡ answers (values_of h values) (store_of h) → act program (serving_config f asks m) ≡ giving_step asks (record m { heap = h; args = values })
+    values_step : (values : List Value) → answer ≡ answers (values_of h values) (store_of h) → act program (serving_config f past m) ≡ step_as Gives past (record m { heap = h; args = values })
     values_step values e =
         served_as _ e
-        ∙ ap (λ (frames : List s.Frame). comes frames (registers_of m) m.heap.functions) (sym (same_frames_of m.heap h more m is.extras))
-        ∙ ap (λ (r : Registers). comes (frames_in h.texts m) r m.heap.functions) (sym (same_registers m.heap h more m is.values is.tail))
-        ∙ ap (λ (fs : List Function). comes (frames_in h.texts m) (registers_in h.texts m) fs) (sym functions)
+        ∙ ap (λ (frames : List s.Frame). comes frames (registers_of m) (state_in m.heap.texts m.heap.functions (store_of h) past m)) (sym (same_frames_of m.heap h more m is.extras))
+        ∙ ap (λ (r : Registers). comes (frames_in h.texts m) r (state_in m.heap.texts m.heap.functions (store_of h) past m)) (sym (same_registers m.heap h more m is.values is.tail))
+        ∙ ap (λ (fs : List Function). comes (frames_in h.texts m) (registers_in h.texts m) (state_in m.heap.texts fs (store_of h) past m)) (sym functions)
+        ∙ ap (comes (frames_in h.texts m) (registers_in h.texts m)) (sym (same_state m.heap h more m is.modules h.functions (store_of h) past))
       where
-        comes : List s.Frame → Registers → List Function → Step
-        comes frames r fs = finish (given (values_of h values)) frames r (state_in fs (store_of h) asks m)
+        comes : List s.Frame → Registers → State → Step
+        comes frames r st = finish (given (values_of h values)) frames r st
 
-  -- they go to the frame on top
-  pub serves_values : (values : List Value) (status : Status) (new : EngineView) → IsTrue (is_here (native_view f)) → answer ≡ answers (values_of h values) (store_of h) → Delivers status (record m { heap = h; args = values }) new → ServedOr (Some status) f m new
-  serves_values values status new here e d = λ program. came_as _ _ ⊥ status (record m { heap = h; args = values }) m new (λ asks. values_step here program asks values e) d
+  -- its values go on
+  pub serves_values : (values : List Value) → IsTrue (is_here (native_view f)) → answer ≡ answers (values_of h values) (store_of h) → ServedOr true (Some Gives) f m (record m { heap = h; args = values })
+  serves_values values here e = λ program. record { step = λ past. values_step here program past values e; kept = later_fit values }
 
   -- it fails
-  pub serves_error : (cause : Cause) (v : Value) (new : EngineView) → IsTrue (is_here (native_view f)) → Refuses m.heap h (library (native_view f) (values_of m.heap m.args)) (error_of h.texts cause) → Failed f cause v (record m { heap = h }) new → ServedOr (Some (Raises v)) f m new
+  pub serves_error : (cause : Cause) (v : Value) (new : EngineView) → IsTrue (is_here (native_view f)) → Refuses m.heap h (library (native_view f) (values_of m.heap m.args)) (error_of h.texts cause) → Failed f cause v (record m { heap = h }) new → ServedOr true (Some (Raises v)) f m new
   serves_error cause v new here refuses failed = λ program. record {
-    step = λ asks.
-        served_as here program asks _ refused.0
-        ∙ ap (λ (c : Config). raised (frames_of m) (registers_of m) (fault_value (native_view f) (caller (places c.frames)) failed.error) (state_of asks m)) (sym (same asks))
-        ∙ ap (λ (w : meant.Value). raised (frames_of m) (registers_of m) w (state_of asks m)) (sym failed.value_is)
-        ∙ ap (λ (c : Config). raised c.frames c.registers (value_view new.heap.texts v) c.state) (sym (failed.same asks ∙ same asks));
-    kept = failed.made;
+    step = λ past.
+        served_as here program past _ refused.0
+        ∙ ap (λ (c : Config). raised (frames_of m) (registers_of m) (fault_value (native_view f) (caller (places c.frames)) failed.error) (state_of past m)) (sym (same past))
+        ∙ ap (λ (w : meant.Value). raised (frames_of m) (registers_of m) w (state_of past m)) (sym failed.value_is)
+        ∙ ap (λ (c : Config). raised c.frames c.registers (value_view new.heap.texts v) c.state) (sym (failed.same past ∙ same past));
+    kept = (failed.made, failed.fit);
   }
     where
       refused : Refuses m.heap h (library (native_view f) (values_of m.heap m.args)) (Some failed.error)
       refused = subst (Refuses m.heap h (library (native_view f) (values_of m.heap m.args))) failed.is refuses
 
-      same : (asks : List Ask) → config_of asks (record m { heap = h }) ≡ config_of asks m
-      same asks = grown m h is more refused.1 functions asks
+      same : (past : Past) → config_of past (record m { heap = h }) ≡ config_of past m
+      same past = grown m h is more refused.1 functions past
 
 -- ---- by what a call of `lua_lib` came to
 
@@ -146,7 +143,7 @@ here_failing false o cause is elsewhere = absurd (failed_apart cause o is (elsew
 pub made_later : (m : EngineView) (h : HeapView) (values : List Value) → Extends m.heap h → IsEngine m → AreMade h values → IsEngine (record m { heap = h; args = values })
 made_later m h values more is made =
     let later = later_at m h m.pc more is in
-    record { events = later.events; extra = later.extra; below = later.below; values = later.values; tail = later.tail; extras = later.extras; args = made; cells = later.cells; chunks = later.chunks }
+    record { events = later.events; extra = later.extra; below = later.below; values = later.values; tail = later.tail; extras = later.extras; args = made; cells = later.cells; chunks = later.chunks; modules = later.modules }
 
 module _ (e m : EngineView) (seen : e ≡ m) (is : IsEngine e) (fit : AreFit m) (f : Native) (h : HeapView) (more : Extends e.heap h) (functions : h.functions ≡ e.heap.functions) where
   fit_seen : AreFit e
@@ -156,15 +153,15 @@ module _ (e m : EngineView) (seen : e ≡ m) (is : IsEngine e) (fit : AreFit m) 
   fits_later args = later_fit e is fit_seen f h more functions args
 
   module _ (args : List Value) (are : args ≡ e.args) where
-    pub serves_ok : {R : Type 0} (made : R) (o : Result R LibFault) (values : List Value) (status : Status) (new : EngineView) → o ≡ Ok made → (IsFalse (is_here (native_view f)) → o ≡ Err Elsewhere) → (IsTrue (is_here (native_view f)) → library (native_view f) (values_of e.heap args) (store_of e.heap) ≡ answers (values_of h values) (store_of h)) → Delivers status (record e { heap = h; args = values }) new → ServedOr (Some status) f m new
-    serves_ok made o values status new ok elsewhere calls d =
+    pub serves_ok : {R : Type 0} (made : R) (o : Result R LibFault) (values : List Value) → o ≡ Ok made → (IsFalse (is_here (native_view f)) → o ≡ Err Elsewhere) → (IsTrue (is_here (native_view f)) → library (native_view f) (values_of e.heap args) (store_of e.heap) ≡ answers (values_of h values) (store_of h)) → (here : Bool) → ServedOr here (Some Gives) f m (record e { heap = h; args = values })
+    serves_ok made o values ok elsewhere calls b =
         let here = here_unless (is_here (native_view f)) o made ok elsewhere in
-        subst (λ (y : EngineView). ServedOr (Some status) f y new) seen
-        (serves_values e is fit_seen f h more functions values status new here (subst (λ (vs : List Value). library (native_view f) (values_of e.heap vs) (store_of e.heap) ≡ answers (values_of h values) (store_of h)) are (calls here)) d)
+        subst (λ (y : EngineView). ServedOr b (Some Gives) f y (record e { heap = h; args = values })) seen
+        (serves_values e is fit_seen f h more functions values here (subst (λ (vs : List Value). library (native_view f) (values_of e.heap vs) (store_of e.heap) ≡ answers (values_of h values) (store_of h)) are (calls here)))
 
-    pub serves_failing : {R : Type 0} (o : Result R LibFault) (items : R → List Value) (x : LibFault) (cause : Cause) (v : Value) (new : EngineView) → o ≡ Err x → x ≡ Fails cause → (IsFalse (is_here (native_view f)) → o ≡ Err Elsewhere) → (IsTrue (is_here (native_view f)) → Calls items e.heap h (library (native_view f) (values_of e.heap args)) (Err x)) → Failed f cause v (record e { heap = h }) new → ServedOr (Some (Raises v)) f m new
-    serves_failing o items x cause v new err_x x_is elsewhere calls failed =
+    pub serves_failing : {R : Type 0} (o : Result R LibFault) (items : R → List Value) (x : LibFault) (cause : Cause) (v : Value) (new : EngineView) → o ≡ Err x → x ≡ Fails cause → (IsFalse (is_here (native_view f)) → o ≡ Err Elsewhere) → (IsTrue (is_here (native_view f)) → Calls items e.heap h (library (native_view f) (values_of e.heap args)) (Err x)) → Failed f cause v (record e { heap = h }) new → (here : Bool) → ServedOr here (Some (Raises v)) f m new
+    serves_failing o items x cause v new err_x x_is elsewhere calls failed b =
         let err : o ≡ Err (Fails cause) = subst (λ (y : LibFault). o ≡ Err y) x_is err_x in
         let here = here_failing (is_here (native_view f)) o cause err elsewhere in
-        subst (λ (y : EngineView). ServedOr (Some (Raises v)) f y new) seen
+        subst (λ (y : EngineView). ServedOr b (Some (Raises v)) f y new) seen
         (serves_error e is fit_seen f h more functions cause v new here (subst (λ (vs : List Value). Refuses e.heap h (library (native_view f) (values_of e.heap vs)) (error_of h.texts cause)) are (subst (λ (y : LibFault). Calls items e.heap h (library (native_view f) (values_of e.heap args)) (Err y)) x_is (calls here))) failed)

@@ -6,7 +6,7 @@ use Rattle.lua_tree.specs.Tree.{Bytes, UnOp}
 use Rattle.lua_tree.specs.View.{binary_view}
 use Rattle.lua_tree.specs.declared.tree.BinOp.{BinOp}
 use Rattle.lua_meaning.specs.Value as meant
-use Rattle.lua_meaning.specs.Message.{Ask}
+use Rattle.lua_machine.specs.Past.{Past}
 use Rattle.lua_heap.specs.declared.value.Value.{Value}
 use Rattle.lua_heap.specs.declared.value.Value.TheVariants.{Num}
 use Rattle.lua_heap.specs.Value.{value_view}
@@ -25,11 +25,11 @@ use Rattle.lua_operators.specs.declared.fault.Fault.{Fault}
 use Rattle.lua_operators.specs.Doing.{does}
 use Rattle.lua_operators.specs.Faults.{fault_text}
 use Rattle.lua_machine.specs.declared.status.Status.{Status}
-use Rattle.lua_machine.specs.declared.status.Status.TheVariants.{Goes, NoTick, Serves, Raises, Ends, NotYet}
+use Rattle.lua_machine.specs.declared.status.Status.TheVariants.{Goes, Raises}
 use Rattle.lua_machine.specs.View.{EngineView, registers_of, run_of, frames_of, state_of}
 use Rattle.lua_machine.specs.Ready.{IsCode, IsReady}
 use Rattle.lua_machine.specs.Made.{IsEngine}
-use Rattle.lua_machine.specs.Does.{Came, IsKept, IsElsewhere, Takes, HasSlot, with_slot, site_at, step_as, step_at}
+use Rattle.lua_machine.specs.Does.{Came, Takes, HasSlot, with_slot, site_at, step_at}
 use Rattle.lua_machine.specs.Errors.{Raised}
 use Rattle.lua_machine.specs.Numbers.{GivesOfNumbers}
 use Rattle.lua_machine.specs.Settled.{GoesOn, doing_step, Settles, operation, operation_step, Operates}
@@ -40,24 +40,12 @@ use Rattle.lua_machine.proofs.Taking.{stays_at, length_set}
 
 -- ---- what came about is what an instruction takes
 
-module _ (m new : EngineView) (did does : List Ask → Step) (yet cause : Type 0) (same : (asks : List Ask) → did asks ≡ does asks) (why : yet → cause) where
-  kept_as : (status : Status) → IsKept yet status m new → IsKept cause status m new
-  kept_as Goes kept = kept
-  kept_as NoTick kept = kept
-  kept_as (Serves f) kept = kept
-  kept_as (Raises v) kept = kept
-  kept_as Ends kept = kept
-  kept_as NotYet kept = (why kept.0, kept.1)
+pub came_as : (did does : Past → Step) (status : Status) (new : EngineView) → ((past : Past) → did past ≡ does past) → Came does status new → Came did status new
+came_as did does status new same c = record { step = λ past. same past ∙ c.step past; kept = c.kept }
 
-  pub came_as : (status : Status) → Came does yet status m new → Came did cause status m new
-  came_as status c = record {
-    step = λ asks. same asks ∙ c.step asks ∙ ap (step_as status asks new) (sym (same asks));
-    kept = kept_as status c.kept;
-  }
-
-pub came_of : {E : Type 0} (o : Result Status E) (m new : EngineView) (did does : List Ask → Step) (yet cause : Type 0) → ((asks : List Ask) → did asks ≡ does asks) → (yet → cause) → IfOk o (λ status. Came does yet status m new) → IfOk o (λ status. Came did cause status m new)
-came_of (Ok status) m new did does yet cause same why c = came_as m new did does yet cause same why status c
-came_of (Err e) m new did does yet cause same why c = c
+pub came_of : {E : Type 0} (o : Result Status E) (new : EngineView) (did does : Past → Step) → ((past : Past) → did past ≡ does past) → IfOk o (λ status. Came does status new) → IfOk o (λ status. Came did status new)
+came_of (Ok status) new did does same c = came_as did does status new same c
+came_of (Err e) new did does same c = c
 
 -- ---- a slot gets a value
 
@@ -69,16 +57,16 @@ ready_next m to v r leads =
 
 pub settles_value : (m : EngineView) (to : ℕ) (v : Value) → IsReady m → GoesOn m → HasSlot m to → Settles to (Gives v) Goes m (with_slot m to v)
 settles_value m to v r leads slot =
-    record { step = λ asks. puts m to v (value_view m.heap.texts v) slot refl asks; kept = ready_next m to v r leads }
+    record { step = λ past. puts m to v (value_view m.heap.texts v) slot refl past; kept = ready_next m to v r leads }
 
 -- an error is raised
-pub came_raised : (m new : EngineView) (text : Bytes) (v : Value) (yet : Type 0) → Raised text v m new → Came (λ asks. act.fault (run_of m) (frames_of m) (registers_of m) (state_of asks m) (site_at m.proto m.pc) text) yet (Raises v) m new
-came_raised m new text v yet s =
+pub came_raised : (m new : EngineView) (text : Bytes) (v : Value) → Raised text v m new → Came (λ past. act.fault (run_of m) (frames_of m) (registers_of m) (state_of past m) (site_at m.proto m.pc) text) (Raises v) new
+came_raised m new text v s =
     record {
-      step = λ asks.
-          ap (λ (w : meant.Value). raised (frames_of m) (registers_of m) w (state_of asks m)) (sym s.text_is)
-          ∙ ap (λ (c : Config). raised c.frames c.registers (value_view new.heap.texts v) c.state) (sym (s.same asks));
-      kept = s.made;
+      step = λ past.
+          ap (λ (w : meant.Value). raised (frames_of m) (registers_of m) w (state_of past m)) (sym s.text_is)
+          ∙ ap (λ (c : Config). raised c.frames c.registers (value_view new.heap.texts v) c.state) (sym (s.same past));
+      kept = (s.made, s.fit);
     }
 
 -- ---- a heap that got strings alone
@@ -104,8 +92,8 @@ module _ (m : EngineView) (h : HeapView) (is : IsEngine m) (more : Extends m.hea
   does_in site to d (s.library f args base cell_base) c = stop stuck
 
   -- an operator's step is the same before and after
-  pub doing_later : (to : ℕ) (d : code.Doing) (asks : List Ask) → act.does (run_of m) (frames_of m) (registers_of m) (state_of asks m) (site_at m.proto m.pc) to d ≡ act.does (run_of later) (frames_of later) (registers_of later) (state_of asks later) (site_at m.proto m.pc) to d
-  doing_later to d asks = ap (λ (c : Config). does_in (site_at m.proto m.pc) to d c.active c) (sym (grown m h is more store functions asks))
+  pub doing_later : (to : ℕ) (d : code.Doing) (past : Past) → act.does (run_of m) (frames_of m) (registers_of m) (state_of past m) (site_at m.proto m.pc) to d ≡ act.does (run_of later) (frames_of later) (registers_of later) (state_of past later) (site_at m.proto m.pc) to d
+  doing_later to d past = ap (λ (c : Config). does_in (site_at m.proto m.pc) to d c.active c) (sym (grown m h is more store functions past))
 
 -- ---- what an operator came to, by its kind
 
@@ -116,44 +104,44 @@ module _ (m new : EngineView) (to : ℕ) (doing : Doing) where
 
   pub settles_fails : (fault : Fault) (error : Value) → doing ≡ Fails fault → Raised (fault_text fault) error m new → Settles to doing (Raises error) m new
   settles_fails fault error is raised =
-      subst (λ (d : Doing). Settles to d (Raises error) m new) (sym is) (came_raised m new (fault_text fault) error ⊥ raised)
+      subst (λ (d : Doing). Settles to d (Raises error) m new) (sym is) (came_raised m new (fault_text fault) error raised)
 
 -- ---- instructions that do what an operator came to
 
 module _ {E : Type 0} (o : Result Status E) (x : Instr) (m new : EngineView) (to : ℕ) where
-  abbrev step_for : code.Doing → List Ask → Step
-  step_for d asks = act.does (run_of m) (frames_of m) (registers_of m) (state_of asks m) (site_at m.proto m.pc) to d
+  abbrev step_for : code.Doing → Past → Step
+  step_for d past = act.does (run_of m) (frames_of m) (registers_of m) (state_of past m) (site_at m.proto m.pc) to d
 
-  pub takes_settled : (doing : Doing) (d : code.Doing) → does m.heap doing ≡ d → ((asks : List Ask) → step_at x asks m ≡ step_for d asks) → (⊥ → IsElsewhere x m) → IfOk o (λ status. Settles to doing status m new) → IfOk o (λ status. Takes x status m new)
-  takes_settled doing d is so why c =
-      came_of o m new (λ asks. step_at x asks m) (doing_step to doing m) ⊥ (IsElsewhere x m)
-      (λ asks. so asks ∙ ap (λ (d : code.Doing). step_for d asks) (sym is))
-      why c
+  pub takes_settled : (doing : Doing) (d : code.Doing) → does m.heap doing ≡ d → ((past : Past) → step_at x past m ≡ step_for d past) → IfOk o (λ status. Settles to doing status m new) → IfOk o (λ status. Takes x status m new)
+  takes_settled doing d is so c =
+      came_of o new (λ past. step_at x past m) (doing_step to doing m)
+      (λ past. so past ∙ ap (λ (d : code.Doing). step_for d past) (sym is))
+      c
 
   -- a unary operator
-  pub takes_unary : (e : EngineView) → e ≡ m → (op : UnOp) (doing : Doing) (from : Value) (v : meant.Value) → does e.heap doing ≡ code.unary_doing op (store_of e.heap) (value_view e.heap.texts from) → value_view m.heap.texts from ≡ v → ((asks : List Ask) → step_at x asks m ≡ step_for (code.unary_doing op (store_of m.heap) v) asks) → (⊥ → IsElsewhere x m) → IfOk o (λ status. Settles to doing status m new) → IfOk o (λ status. Takes x status m new)
-  takes_unary e seen op doing from v is is_from so why c =
+  pub takes_unary : (e : EngineView) → e ≡ m → (op : UnOp) (doing : Doing) (from : Value) (v : meant.Value) → does e.heap doing ≡ code.unary_doing op (store_of e.heap) (value_view e.heap.texts from) → value_view m.heap.texts from ≡ v → ((past : Past) → step_at x past m ≡ step_for (code.unary_doing op (store_of m.heap) v) past) → IfOk o (λ status. Settles to doing status m new) → IfOk o (λ status. Takes x status m new)
+  takes_unary e seen op doing from v is is_from so c =
       takes_settled doing (code.unary_doing op (store_of m.heap) v)
       (subst (λ (y : EngineView). does y.heap doing ≡ code.unary_doing op (store_of y.heap) (value_view y.heap.texts from)) seen is
-      ∙ ap (code.unary_doing op (store_of m.heap)) is_from) so why c
+      ∙ ap (code.unary_doing op (store_of m.heap)) is_from) so c
 
   -- a field is read
-  pub takes_read : (e : EngineView) → e ≡ m → (doing : Doing) (base key : Value) (b k : meant.Value) → does e.heap doing ≡ code.field_doing (store_of e.heap) (value_view e.heap.texts base) (value_view e.heap.texts key) → value_view m.heap.texts base ≡ b → value_view m.heap.texts key ≡ k → ((asks : List Ask) → step_at x asks m ≡ step_for (code.field_doing (store_of m.heap) b k) asks) → (⊥ → IsElsewhere x m) → IfOk o (λ status. Settles to doing status m new) → IfOk o (λ status. Takes x status m new)
-  takes_read e seen doing base key b k is is_base is_key so why c =
+  pub takes_read : (e : EngineView) → e ≡ m → (doing : Doing) (base key : Value) (b k : meant.Value) → does e.heap doing ≡ code.field_doing (store_of e.heap) (value_view e.heap.texts base) (value_view e.heap.texts key) → value_view m.heap.texts base ≡ b → value_view m.heap.texts key ≡ k → ((past : Past) → step_at x past m ≡ step_for (code.field_doing (store_of m.heap) b k) past) → IfOk o (λ status. Settles to doing status m new) → IfOk o (λ status. Takes x status m new)
+  takes_read e seen doing base key b k is is_base is_key so c =
       takes_settled doing (code.field_doing (store_of m.heap) b k)
       (subst (λ (y : EngineView). does y.heap doing ≡ code.field_doing (store_of y.heap) (value_view y.heap.texts base) (value_view y.heap.texts key)) seen is
       ∙ ap (λ (v : meant.Value). code.field_doing (store_of m.heap) v (value_view m.heap.texts key)) is_base
-      ∙ ap (λ (v : meant.Value). code.field_doing (store_of m.heap) b v) is_key) so why c
+      ∙ ap (λ (v : meant.Value). code.field_doing (store_of m.heap) b v) is_key) so c
 
   -- a binary operator
-  pub takes_operated : (op : BinOp) (left right : Value) (a b : meant.Value) → value_view m.heap.texts left ≡ a → value_view m.heap.texts right ≡ b → ((asks : List Ask) → step_at x asks m ≡ step_for (code.binary_doing (binary_view op) (store_of m.heap) a b) asks) → (⊥ → IsElsewhere x m) → IfOk o (λ status. Operates op to left right status m new) → IfOk o (λ status. Takes x status m new)
-  takes_operated op left right a b is_left is_right so why c =
+  pub takes_operated : (op : BinOp) (left right : Value) (a b : meant.Value) → value_view m.heap.texts left ≡ a → value_view m.heap.texts right ≡ b → ((past : Past) → step_at x past m ≡ step_for (code.binary_doing (binary_view op) (store_of m.heap) a b) past) → IfOk o (λ status. Operates op to left right status m new) → IfOk o (λ status. Takes x status m new)
+  takes_operated op left right a b is_left is_right so c =
       let is : operation op left right m ≡ code.binary_doing (binary_view op) (store_of m.heap) a b =
       ap (λ (v : meant.Value). code.binary_doing (binary_view op) (store_of m.heap) v (value_view m.heap.texts right)) is_left
       ∙ ap (λ (v : meant.Value). code.binary_doing (binary_view op) (store_of m.heap) a v) is_right in
-      came_of o m new (λ asks. step_at x asks m) (operation_step op to left right m) ⊥ (IsElsewhere x m)
-      (λ asks. so asks ∙ ap (λ (d : code.Doing). step_for d asks) (sym is))
-      why c
+      came_of o new (λ past. step_at x past m) (operation_step op to left right m)
+      (λ past. so past ∙ ap (λ (d : code.Doing). step_for d past) (sym is))
+      c
 
 -- ---- binary operators
 
@@ -165,7 +153,7 @@ operates_numbers op m to left right v x y is_left is_right g r leads slot =
     ∙ ap (λ (w : Value). code.binary_doing (binary_view op) (store_of m.heap) (meant.num x) (value_view m.heap.texts w)) is_right
     ∙ g.gives m.heap (store_of m.heap) in
     record {
-      step = λ asks. gives_did m (site_at m.proto m.pc) to (operation op left right m) v slot is asks;
+      step = λ past. gives_did m (site_at m.proto m.pc) to (operation op left right m) v slot is past;
       kept = ready_next m to v r leads;
     }
 
@@ -175,24 +163,13 @@ module _ (m : EngineView) (h : HeapView) (is : IsEngine m) (more : Extends m.hea
   found = record m { heap = h }
 
   module _ (op : BinOp) (new : EngineView) (to : ℕ) (left right : Value) (doing : Doing) (does_it : does h doing ≡ operation op left right m) where
-    kept_found : (status : Status) → IsKept ⊥ status found new → IsKept ⊥ status m new
-    kept_found NotYet kept = absurd kept.0
-    kept_found Goes kept = kept
-    kept_found NoTick kept = kept
-    kept_found (Serves f) kept = kept
-    kept_found (Raises v) kept = kept
-    kept_found Ends kept = kept
-
-    step_found : (asks : List Ask) → operation_step op to left right m asks ≡ doing_step to doing found asks
-    step_found asks =
-        doing_later m h is more store functions to (operation op left right m) asks
-        ∙ ap (λ (d : code.Doing). act.does (run_of found) (frames_of found) (registers_of found) (state_of asks found) (site_at m.proto m.pc) to d) (sym does_it)
+    step_found : (past : Past) → operation_step op to left right m past ≡ doing_step to doing found past
+    step_found past =
+        doing_later m h is more store functions to (operation op left right m) past
+        ∙ ap (λ (d : code.Doing). act.does (run_of found) (frames_of found) (registers_of found) (state_of past found) (site_at m.proto m.pc) to d) (sym does_it)
 
     operates_so : {E : Type 0} (o : Result Status E) → IfOk o (λ status. Settles to doing status found new) → IfOk o (λ status. Operates op to left right status m new)
-    operates_so (Ok status) c = record {
-      step = λ asks. step_found asks ∙ c.step asks ∙ ap (step_as status asks new) (sym (step_found asks));
-      kept = kept_found status c.kept;
-    }
+    operates_so (Ok status) c = record { step = λ past. step_found past ∙ c.step past; kept = c.kept }
     operates_so (Err e) c = c
 
 -- for an engine that is seen by its parts

@@ -21,6 +21,7 @@ use Rattle.lua_operators.specs.declared.events.Events.{Events}
 use Rattle.lua_operators.specs.Events.{AreEvents}
 use Rattle.lua_machine.specs.declared.frame.Frame.{Frame}
 use Rattle.lua_machine.specs.declared.chunk.Chunk.{Chunk}
+use Rattle.lua_machine.specs.declared.module.Module.{Module}
 use Rattle.lua_machine.specs.View.{EngineView, value_at, slots_view, proto_at, no_proto, made_view}
 use Rattle.lua_machine.specs.Made.{AreMade, IsMadeChunk, IsEngine}
 use Rattle.lua_machine.specs.Ready.{IsCode, IsLoaded, AreFit, IsReady}
@@ -71,19 +72,18 @@ first_engine heap events chunk values func proto ticks =
       extras = [];
       args = [];
       frames = [];
+      modules = [];
       chunk = 0;
       func = func;
       pc = 0;
       base = 0;
       cell_base = 0;
       extra_base = 0;
-      output = [];
-      ends = [];
       ticks = ticks;
     }
 
 -- the engine that was made, by its lists
-pub first_same : (heap : HeapView) (events : Events) (chunk : Chunk) (func : ℕ) (proto : ProtoView) (ticks n : ℕ) (chunks : List Chunk) (values : List Value) (cells : List ℕ) (tail extras args : List Value) (frames : List Frame) (output ends : List ℕ) → chunks ≡ chunk ∷ [] → values ≡ replicate n Nil → cells ≡ [] → tail ≡ [] → extras ≡ [] → args ≡ [] → frames ≡ [] → output ≡ [] → ends ≡ []
+pub first_same : (heap : HeapView) (events : Events) (chunk : Chunk) (func : ℕ) (proto : ProtoView) (ticks n : ℕ) (chunks : List Chunk) (values : List Value) (cells : List ℕ) (tail extras args : List Value) (frames : List Frame) (modules : List Module) → chunks ≡ chunk ∷ [] → values ≡ replicate n Nil → cells ≡ [] → tail ≡ [] → extras ≡ [] → args ≡ [] → frames ≡ [] → modules ≡ []
     → record {
       heap = heap;
       events = events;
@@ -95,17 +95,16 @@ pub first_same : (heap : HeapView) (events : Events) (chunk : Chunk) (func : ℕ
       extras = extras;
       args = args;
       frames = frames;
+      modules = modules;
       chunk = 0;
       func = func;
       pc = 0;
       base = 0;
       cell_base = 0;
       extra_base = 0;
-      output = output;
-      ends = ends;
       ticks = ticks;
     } ≡ first_engine heap events chunk (replicate n Nil) func proto ticks
-first_same heap events chunk func proto ticks n chunks values cells tail extras args frames output ends a b d e f g h j k = λ i. record {
+first_same heap events chunk func proto ticks n chunks values cells tail extras args frames modules a b d e f g h j = λ i. record {
   heap = heap;
   events = events;
   chunks = a i;
@@ -116,14 +115,13 @@ first_same heap events chunk func proto ticks n chunks values cells tail extras 
   extras = f i;
   args = g i;
   frames = h i;
+  modules = j i;
   chunk = 0;
   func = func;
   pc = 0;
   base = 0;
   cell_base = 0;
   extra_base = 0;
-  output = j i;
-  ends = k i;
   ticks = ticks;
 }
 
@@ -143,6 +141,7 @@ first_made heap events chunk n func proto ticks named made =
       args = tt;
       cells = tt;
       chunks = (made, tt);
+      modules = tt;
     }
 
 module _ (heap : HeapView) (events : Events) (chunk : Chunk) (n func ticks : ℕ) (proto : ProtoView) (loaded : IsLoaded heap.texts chunk) (none : heap.functions ≡ []) (last : func ≡ length chunk.code.now - 1) (is : proto ≡ proto_at (chunk ∷ []) 0 func) where
@@ -186,12 +185,12 @@ module _ (heap : HeapView) (events : Events) (chunk : Chunk) (n func ticks : ℕ
       length-replicate (suc n) = ap suc (length-replicate n)
 
   pub first_begins : store_of heap ≡ first_store 1 → Begins chunk.code.now ticks m
-  first_begins store asks =
+  first_begins store past =
       ap (λ (slots : ℕ → meant.Value). config slots [] (store_of heap) (map (made_view (chunk ∷ [])) heap.functions)) (slots_nil heap.texts n ∙ sym (values_nil 0 (i.params_of code)))
       ∙ ap (λ extra. config slots_then extra (store_of heap) (map (made_view (chunk ∷ [])) heap.functions)) (sym (extra_none (i.is_vararg code) (i.params_of code)))
       ∙ ap (λ s. config slots_then extra_then s (map (made_view (chunk ∷ [])) heap.functions)) store
       ∙ ap (λ (fs : List Function). config slots_then extra_then (first_store 1) (map (made_view (chunk ∷ [])) fs)) none
-      ∙ ap (λ k. begun (runs (code_at chunk.code.now k) []) [] [] 0 0 no_registers (first_state ticks asks)) last
+      ∙ ap (λ k. begun (runs (code_at chunk.code.now k) []) [] [] 0 0 no_registers (first_state ticks past)) last
     where
       code : i.Proto
       code = code_at chunk.code.now func
@@ -207,7 +206,7 @@ module _ (heap : HeapView) (events : Events) (chunk : Chunk) (n func ticks : ℕ
         active = lua (record { code = code; pc = 0; base = 0; cell_base = 0; extra = extra });
         frames = [];
         registers = record { slots = slots; cells = λ n. 0; tail = [] };
-        state = record { store = s; functions = made; modules = []; output = []; ends = []; ticks = ticks; asks = asks };
+        state = record { store = s; functions = made; modules = []; output = past.output; ends = past.ends; ticks = ticks; asks = past.asks };
       }
 
 -- an item of a list that has it

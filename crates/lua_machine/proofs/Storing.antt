@@ -4,7 +4,7 @@ use Rattle.std.specs.Prelude.{Result, Ok, Err, IfOk}
 use Rattle.std.specs.List.{AllByRecursion}
 use Rattle.lua_tree.specs.Tree.{Bytes}
 use Rattle.lua_meaning.specs.Value as meant
-use Rattle.lua_meaning.specs.Message.{Ask}
+use Rattle.lua_machine.specs.Past.{Past}
 use Rattle.lua_meaning.specs.Store.{Store, set_cell}
 use Rattle.lua_heap.specs.declared.value.Value.{Value}
 use Rattle.lua_heap.specs.Value.{value_view}
@@ -18,7 +18,7 @@ use Rattle.lua_machine.specs.declared.status.Status.{Status}
 use Rattle.lua_machine.specs.declared.status.Status.TheVariants.{Goes, Raises}
 use Rattle.lua_machine.specs.View.{EngineView, cell_at, registers_of, run_of, frames_of, state_of, config_in}
 use Rattle.lua_machine.specs.Ready.{IsCode, IsLoaded, IsReadyFor}
-use Rattle.lua_machine.specs.Does.{site_at, step_at, at_pc, IsElsewhere, Takes}
+use Rattle.lua_machine.specs.Does.{site_at, step_at, at_pc, Takes}
 use Rattle.lua_machine.specs.Changes.{HasStored, cell_change, EachTakes}
 use Rattle.lua_machine.specs.Errors.{Raised}
 use Rattle.lua_machine.proofs.Doing.{becomes_config}
@@ -44,11 +44,11 @@ module _ (e m : EngineView) (seen : e ≡ m) (h : HeapView) where
 
 module _ (x : Instr) (m : EngineView) (r : IsReadyFor x m) where
   -- and the next instruction comes
-  pub takes_stored : (new : EngineView) (change : Store → Store) → HasStored change m new → Leads m.proto (cells_at m.proto m.pc) (m.pc + 1) → ((asks : List Ask) → step_at x asks m ≡ on (config_in m.heap.texts m.heap.functions (change (store_of m.heap)) asks (at_pc m (m.pc + 1)))) → Takes x Goes m new
+  pub takes_stored : (new : EngineView) (change : Store → Store) → HasStored change m new → Leads m.proto (cells_at m.proto m.pc) (m.pc + 1) → ((past : Past) → step_at x past m ≡ on (config_in m.heap.texts m.heap.functions (change (store_of m.heap)) past (at_pc m (m.pc + 1)))) → Takes x Goes m new
   takes_stored new change s leads does =
       subst (Takes x Goes m) (sym s.is)
       (record {
-        step = λ asks. does asks ∙ ap on (sym (becomes_config (at_pc m (m.pc + 1)) s.heap change asks s.becomes));
+        step = λ past. does past ∙ ap on (sym (becomes_config (at_pc m (m.pc + 1)) s.heap change past s.becomes));
         kept = goes_on m (record m { heap = s.heap; pc = m.pc + 1 }) (cells_at m.proto m.pc) r.ready (subst (λ (texts : List Bytes). AllByRecursion (IsLoaded texts) m.chunks) (sym s.becomes.texts) r.ready.fit.chunks)
             (record {
               chunks = refl;
@@ -65,17 +65,17 @@ module _ (x : Instr) (m : EngineView) (r : IsReadyFor x m) where
       })
 
   -- an error is raised
-  pub takes_raised : (new : EngineView) (text : Bytes) (v : Value) → Raised text v m new → ((asks : List Ask) → step_at x asks m ≡ act.fault (run_of m) (frames_of m) (registers_of m) (state_of asks m) (site_at m.proto m.pc) text) → Takes x (Raises v) m new
+  pub takes_raised : (new : EngineView) (text : Bytes) (v : Value) → Raised text v m new → ((past : Past) → step_at x past m ≡ act.fault (run_of m) (frames_of m) (registers_of m) (state_of past m) (site_at m.proto m.pc) text) → Takes x (Raises v) m new
   takes_raised new text v s does =
       record {
-        step = λ asks.
-            does asks
-            ∙ ap (λ (w : meant.Value). raised (frames_of m) (registers_of m) w (state_of asks m)) (sym s.text_is)
-            ∙ ap (λ (c : Config). raised c.frames c.registers (value_view new.heap.texts v) c.state) (sym (s.same asks));
-        kept = s.made;
+        step = λ past.
+            does past
+            ∙ ap (λ (w : meant.Value). raised (frames_of m) (registers_of m) w (state_of past m)) (sym s.text_is)
+            ∙ ap (λ (c : Config). raised c.frames c.registers (value_view new.heap.texts v) c.state) (sym (s.same past));
+        kept = (s.made, s.fit);
       }
 
 -- an instruction that hands on
-pub takes_each : {E : Type 0} (x : Instr) (old new : EngineView) (does : List Ask → Step) (yet : Type 0) (o : Result Status E) → IfOk o (λ status. EachTakes does yet status old new) → IsReadyFor x old → Leads old.proto (cells_at old.proto old.pc) (old.pc + 1) → ((asks : List Ask) → step_at x asks old ≡ does asks) → (yet → IsElsewhere x old) → IfOk o (λ status. Takes x status old new)
-takes_each x old new does yet (Ok status) each r leads same cause = each x r leads same cause
-takes_each x old new does yet (Err e) each r leads same cause = each
+pub takes_each : {E : Type 0} (x : Instr) (old new : EngineView) (does : Past → Step) (o : Result Status E) → IfOk o (λ status. EachTakes does status old new) → IsReadyFor x old → Leads old.proto (cells_at old.proto old.pc) (old.pc + 1) → ((past : Past) → step_at x past old ≡ does past) → IfOk o (λ status. Takes x status old new)
+takes_each x old new does (Ok status) each r leads same = each x r leads same
+takes_each x old new does (Err e) each r leads same = each

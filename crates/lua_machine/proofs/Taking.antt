@@ -4,7 +4,7 @@ use Rattle.std.specs.Prelude.{ℤ}
 use Rattle.std.specs.List.{AllByRecursion}
 use Rattle.lua_value.specs.Arithmetic as arithmetic
 use Rattle.lua_meaning.specs.Value as meant
-use Rattle.lua_meaning.specs.Message.{Ask}
+use Rattle.lua_machine.specs.Past.{Past}
 use Rattle.lua_meaning.specs.Store.{add_table}
 use Rattle.lua_heap.specs.declared.value.Value.{Value}
 use Rattle.lua_heap.specs.declared.value.Value.TheVariants.{Table}
@@ -53,12 +53,12 @@ module _ (x : Instr) (m : EngineView) (r : IsReadyFor x m) where
       let long = length_set m.values (m.base + to) v in
       goes_on m (with_slot m to v) (cells_at m.proto m.pc) r.ready r.ready.fit.chunks (stays_at m (set m.values (m.base + to) v) (m.pc + 1) m.ticks (omega (arith, long))) r.cells leads
 
-  pub takes_put : (to : ℕ) (v : Value) (w : meant.Value) → Leads m.proto (cells_at m.proto m.pc) (m.pc + 1) → HasSlot m to → w ≡ value_view m.heap.texts v → ((asks : List Ask) → step_at x asks m ≡ act.puts (run_of m) (frames_of m) (registers_of m) (state_of asks m) to w) → Takes x Goes m (with_slot m to v)
+  pub takes_put : (to : ℕ) (v : Value) (w : meant.Value) → Leads m.proto (cells_at m.proto m.pc) (m.pc + 1) → HasSlot m to → w ≡ value_view m.heap.texts v → ((past : Past) → step_at x past m ≡ act.puts (run_of m) (frames_of m) (registers_of m) (state_of past m) to w) → Takes x Goes m (with_slot m to v)
   takes_put to v w leads slot same does =
-      record { step = λ asks. does asks ∙ puts m to v w slot same asks; kept = ready_put to v leads }
+      record { step = λ past. does past ∙ puts m to v w slot same past; kept = ready_put to v leads }
 
   -- another instruction comes, with so many ticks left
-  pub takes_jump : (pc ticks : ℕ) → Leads m.proto (cells_at m.proto m.pc) pc → ((asks : List Ask) → step_at x asks m ≡ on (config_of asks (record m { pc = pc; ticks = ticks }))) → Takes x Goes m (record m { pc = pc; ticks = ticks })
+  pub takes_jump : (pc ticks : ℕ) → Leads m.proto (cells_at m.proto m.pc) pc → ((past : Past) → step_at x past m ≡ on (config_of past (record m { pc = pc; ticks = ticks }))) → Takes x Goes m (record m { pc = pc; ticks = ticks })
   takes_jump pc ticks leads does =
       record {
         step = does;
@@ -66,7 +66,7 @@ module _ (x : Instr) (m : EngineView) (r : IsReadyFor x m) where
       }
 
   -- a turn of a loop, or its end
-  pub takes_turned : (new : EngineView) (body exit : ℕ) → HasTurned body exit m new → Leads m.proto (cells_at m.proto m.pc) body → Leads m.proto (cells_at m.proto m.pc) exit → ((asks : List Ask) → step_at x asks m ≡ on (config_of asks new)) → Takes x Goes m new
+  pub takes_turned : (new : EngineView) (body exit : ℕ) → HasTurned body exit m new → Leads m.proto (cells_at m.proto m.pc) body → Leads m.proto (cells_at m.proto m.pc) exit → ((past : Past) → step_at x past m ≡ on (config_of past new)) → Takes x Goes m new
   takes_turned new body exit t at_body at_exit does =
       let long = t.long in
       record {
@@ -112,17 +112,17 @@ module _ (at count : ℕ) (m new : EngineView) (n limit step : ℤ) where
   pub begins_so : IsReadyFor (ForBegin at count) m → numbers_at m at ≡ Some (n, limit, step) → TurnedOr true at (m.pc + 1) (m.pc + 1 + count) n limit step m new → HasTurned (m.pc + 1) (m.pc + 1 + count) m new → Takes (ForBegin at count) Goes m new
   begins_so r numbers turned moved =
       takes_turned (ForBegin at count) m r new (m.pc + 1) (m.pc + 1 + count) moved r.leads.0 r.leads.1
-      (λ asks. begin_turns m at count (site_at m.proto m.pc) n limit step numbers asks ∙ turned asks)
+      (λ past. begin_turns m at count (site_at m.proto m.pc) n limit step numbers past ∙ turned past)
 
   -- no tick is left for it
   pub begins_not : numbers_at m at ≡ Some (n, limit, step) → TurnedOr false at (m.pc + 1) (m.pc + 1 + count) n limit step m m → Takes (ForBegin at count) NoTick m m
-  begins_not numbers turned = record { step = λ asks. begin_turns m at count (site_at m.proto m.pc) n limit step numbers asks ∙ turned asks; kept = tt }
+  begins_not numbers turned = record { step = λ past. begin_turns m at count (site_at m.proto m.pc) n limit step numbers past ∙ turned past; kept = tt }
 
 module _ (at count : ℕ) (m new : EngineView) (n limit step next : ℤ) where
   pub counts_so : IsReadyFor (ForNext at count) m → numbers_at m at ≡ Some (n, limit, step) → arithmetic.add n step ≡ Ok next → TurnedOr true at (m.pc - count) (m.pc + 1) next limit step m new → HasTurned (m.pc - count) (m.pc + 1) m new → Takes (ForNext at count) Goes m new
   counts_so r numbers sum turned moved =
       takes_turned (ForNext at count) m r new (m.pc - count) (m.pc + 1) moved r.leads.2 r.leads.0
-      (λ asks. next_turns m at count n limit step next numbers sum asks ∙ turned asks)
+      (λ past. next_turns m at count n limit step next numbers sum past ∙ turned past)
 
   pub counts_not : numbers_at m at ≡ Some (n, limit, step) → arithmetic.add n step ≡ Ok next → TurnedOr false at (m.pc - count) (m.pc + 1) next limit step m m → Takes (ForNext at count) NoTick m m
-  counts_not numbers sum turned = record { step = λ asks. next_turns m at count n limit step next numbers sum asks ∙ turned asks; kept = tt }
+  counts_not numbers sum turned = record { step = λ past. next_turns m at count n limit step next numbers sum past ∙ turned past; kept = tt }

@@ -1,7 +1,7 @@
 -- Calls of values, as steps of the definitions' machine.
 use Rattle.std.specs.Prelude.{◌≡◌, ℕ, List, ◌∷◌, Some, None, ⊤}
 use Rattle.lua_meaning.specs.Value as meant
-use Rattle.lua_meaning.specs.Message.{Ask}
+use Rattle.lua_machine.specs.Past.{Past}
 use Rattle.lua_heap.specs.declared.value.Value.{Value}
 use Rattle.lua_heap.specs.declared.value.Value.TheVariants.{Func, Native}
 use Rattle.lua_heap.specs.Value.{value_view}
@@ -49,29 +49,27 @@ calling_frames wants m =
     ∷ frames_of m
 
 -- what a call of a function does
-abbrev pub entering_step : Wants → Target → (first : ℕ) → List meant.Value → List Ask → EngineView →
+abbrev pub entering_step : Wants → Target → (first : ℕ) → List meant.Value → Past → EngineView →
     Step
-entering_step wants f first args asks m =
+entering_step wants f first args past m =
     entering (raised (calling_frames wants m) (registers_of m)) f args (calling_frames wants m)
-    first (free_cells m) (registers_of m) (state_of asks m)
+    first (free_cells m) (registers_of m) (state_of past m)
 
 -- a call of a function came to a status
 abbrev pub EntersAs : Wants → Target → (first count : ℕ) → Behind → Status → EngineView →
     EngineView → Type 0
 EntersAs wants f first count behind status old new =
-    Came (λ asks. entering_step wants f first (args_at old first count behind) asks old) ⊥ status
-    old new
+    Came (λ past. entering_step wants f first (args_at old first count behind) past old) status new
 
 -- what a call of a value does
-abbrev pub calling_step : Wants → Value → (first : ℕ) → List meant.Value → List Ask → EngineView →
+abbrev pub calling_step : Wants → Value → (first : ℕ) → List meant.Value → Past → EngineView →
     Step
-calling_step wants v first args asks m =
+calling_step wants v first args past m =
     calling (value_view m.heap.texts v) args (calling_frames wants m) first (free_cells m)
-    (registers_of m) (state_of asks m)
+    (registers_of m) (state_of past m)
 
 -- a call of a value came to a status
 abbrev pub CallsAs : Wants → Value → (first count : ℕ) → Behind → Status → EngineView → EngineView →
     Type 0
 CallsAs wants v first count behind status old new =
-    Came (λ asks. calling_step wants v first (args_at old first count behind) asks old) ⊥ status
-    old new
+    Came (λ past. calling_step wants v first (args_at old first count behind) past old) status new

@@ -1,7 +1,7 @@
 -- What single instructions change before the next one comes.
 use Rattle.std.specs.Prelude.{◌≡◌, ℕ, zero, suc, ◌+◌, List, [], ◌∷◌, map}
 use Rattle.lua_meaning.specs.Value as meant
-use Rattle.lua_meaning.specs.Message.{Ask}
+use Rattle.lua_machine.specs.Past.{Past}
 use Rattle.lua_meaning.specs.Store.{Store, set_cell, raw_set}
 use Rattle.lua_meaning.specs.Tables.{set_items}
 use Rattle.lua_heap.specs.declared.value.Value.{Value}
@@ -14,7 +14,7 @@ use Rattle.lua_code.specs.Act as act
 use Rattle.lua_machine.specs.declared.status.Status.{Status}
 use Rattle.lua_machine.specs.View.{EngineView, cell_at, slots_view, proto_at, run_of, frames_of, registers_of, state_of}
 use Rattle.lua_machine.specs.Ready.{IsReadyFor}
-use Rattle.lua_machine.specs.Does.{site_at, step_at, IsElsewhere, Takes}
+use Rattle.lua_machine.specs.Does.{site_at, step_at, Takes}
 
 -- the store changed, and the next instruction comes
 pub record HasStored (change : Store → Store) (old new : EngineView) : Type 0 where
@@ -42,16 +42,16 @@ raw_change table key value m s =
     raw_set s table (value_view m.heap.texts key) (value_view m.heap.texts value)
 
 -- the table in a slot gets a field
-abbrev pub new_field_step : (table : ℕ) → (key value : Value) → EngineView → List Ask → Step
-new_field_step table key value m asks =
-    act.sets_new (run_of m) (frames_of m) (registers_of m) (state_of asks m) (site_at m.proto m.pc)
+abbrev pub new_field_step : (table : ℕ) → (key value : Value) → EngineView → Past → Step
+new_field_step table key value m past =
+    act.sets_new (run_of m) (frames_of m) (registers_of m) (state_of past m) (site_at m.proto m.pc)
     (slots_view m.heap.texts m.values (m.base + table)) (value_view m.heap.texts key)
     (value_view m.heap.texts value)
 
 -- a table gets one
-abbrev pub raw_step : (table : ℕ) → (key value : Value) → EngineView → List Ask → Step
-raw_step table key value m asks =
-    act.sets_raw (run_of m) (frames_of m) (registers_of m) (state_of asks m) (site_at m.proto m.pc)
+abbrev pub raw_step : (table : ℕ) → (key value : Value) → EngineView → Past → Step
+raw_step table key value m past =
+    act.sets_raw (run_of m) (frames_of m) (registers_of m) (state_of past m) (site_at m.proto m.pc)
     table (value_view m.heap.texts key) (value_view m.heap.texts value)
 
 -- a list with an item at a place, or behind its last one
@@ -64,9 +64,8 @@ with_cell (c ∷ cells) (suc at) id = c ∷ with_cell cells at id
 abbrev pub held_cells : EngineView → ℕ → List ℕ
 held_cells m n = map (λ c. cell_at m.cells (m.cell_base + c)) (proto_at m.chunks m.chunk n).captures
 
--- each instruction that does this and leads to the next one came to a status; where nothing was done there is a cause
-abbrev pub EachTakes : (List Ask → Step) → (yet : Type 0) → Status → EngineView → EngineView → Type 0
-EachTakes does yet status old new =
+-- each instruction that does this and leads to the next one came to a status
+abbrev pub EachTakes : (Past → Step) → Status → EngineView → EngineView → Type 0
+EachTakes does status old new =
     (x : Instr) → IsReadyFor x old → Leads old.proto (cells_at old.proto old.pc) (old.pc + 1) →
-    ((asks : List Ask) → step_at x asks old ≡ does asks) → (yet → IsElsewhere x old) →
-    Takes x status old new
+    ((past : Past) → step_at x past old ≡ does past) → Takes x status old new

@@ -1,7 +1,9 @@
 -- An instruction that the engine does is a step of the definitions' machine.
-use Rattle.std.specs.Prelude.{◌≡◌, ℕ, ◌+◌, ◌<◌, Bool, true, false, List, length, map, take, set, Option, Some, None, slice_get, ⊤}
+use Rattle.std.specs.Prelude.{◌≡◌, ℕ, ◌+◌, ◌<◌, Bool, true, false, List, [], ◌∷◌, ◌++◌, length, map, take, set, Option, Some, None, slice_get, ⊤}
 use Rattle.lua_meaning.specs.Value as meant
-use Rattle.lua_meaning.specs.Message.{Ask}
+use Rattle.lua_meaning.specs.MessageView.{ask_view}
+use Rattle.lua_meaning.specs.World.{Outcome, given, failed}
+use Rattle.lua_machine.specs.Past.{Past}
 use Rattle.lua_heap.specs.declared.value.Value.{Value}
 use Rattle.lua_heap.specs.Value.{value_view}
 use Rattle.lua_heap.specs.Heap.{IsMade}
@@ -9,13 +11,17 @@ use Rattle.lua_code.specs.Instr as i
 use Rattle.lua_code.specs.declared.instr.Instr.{Instr}
 use Rattle.lua_code.specs.declared.instr.Site.{Site}
 use Rattle.lua_code.specs.View.{ProtoView, Inner, inners, site_view, instr_view, constant_at}
+use Rattle.lua_code.specs.State as s
 use Rattle.lua_code.specs.State.{Step, on, stop, no_ticks, ended}
-use Rattle.lua_code.specs.Frames.{raised}
+use Rattle.lua_code.specs.Frames.{finish}
 use Rattle.lua_code.specs.Act.{act_on}
 use Rattle.lua_machine.specs.declared.status.Status.{Status}
-use Rattle.lua_machine.specs.declared.status.Status.TheVariants.{Goes, NoTick, Serves, Raises, Ends, NotYet}
+use Rattle.lua_machine.specs.declared.status.Status.TheVariants.{Goes, NoTick, Serves, Gives, Raises, Prints, Asks, Ends, Fails}
 use Rattle.lua_machine.specs.View.{EngineView, protos_at, run_of, frames_of, registers_of, state_of, config_of, serving_config, slots_view}
-use Rattle.lua_machine.specs.Ready.{AreFit, IsReady}
+use Rattle.lua_machine.specs.Ready.{AreFit, IsServing, IsReady}
+use Rattle.love_functions.specs.View as love
+use Rattle.lua_machine.specs.declared.errand.Errand.{Errand}
+use Rattle.lua_machine.specs.declared.errand.Errand.TheVariants.{Answers, ComesOut}
 
 -- ---- instructions
 
@@ -40,35 +46,72 @@ instr_of x m = instr_view m.proto.constants (made_before m) (site_at m.proto m.p
 -- ---- steps
 
 -- what an instruction of the definitions does
-abbrev pub step_of : i.Instr → List Ask → EngineView → Step
-step_of x asks m = act_on (run_of m) (frames_of m) (registers_of m) (state_of asks m) x
+abbrev pub step_of : i.Instr → Past → EngineView → Step
+step_of x past m = act_on (run_of m) (frames_of m) (registers_of m) (state_of past m) x
 
 -- what an instruction does
-abbrev pub step_at : Instr → List Ask → EngineView → Step
-step_at x asks m = step_of (instr_of x m) asks m
+abbrev pub step_at : Instr → Past → EngineView → Step
+step_at x past m = step_of (instr_of x m) past m
 
 -- the engine did it and goes on
 abbrev pub Did : i.Instr → EngineView → EngineView → Type 0
-Did x old new = (asks : List Ask) → step_of x asks old ≡ on (config_of asks new)
+Did x old new = (past : Past) → step_of x past old ≡ on (config_of past new)
 
 -- it takes a tick, and none is left
 abbrev pub HasNoTick : i.Instr → EngineView → Type 0
-HasNoTick x m = (asks : List Ask) → step_of x asks m ≡ stop (no_ticks (state_of asks m))
+HasNoTick x m = (past : Past) → step_of x past m ≡ stop (no_ticks (state_of past m))
 
 -- it did it, or it is as it was where there was no tick
 abbrev pub DidOr : i.Instr → Bool → EngineView → EngineView → Type 0
 DidOr x true old new = Did x old new
 DidOr x false old new = HasNoTick x new
 
+-- what a reply is for; the values that come out of a section are put together as arguments are
+abbrev pub errand_view : Errand → EngineView → s.Errand
+errand_view (Answers call) m = love.errand_view m.heap call
+errand_view (ComesOut None) m = s.comes_out (given (map (value_view m.heap.texts) m.args))
+errand_view (ComesOut (Some v)) m = s.comes_out (failed (value_view m.heap.texts v))
+
+-- a reply is awaited
+abbrev pub pending_of : Errand → Past → EngineView → s.Pending
+pending_of errand past m =
+    record {
+      errand = errand_view errand m;
+      base = m.base;
+      cell_base = m.cell_base;
+      frames = frames_of m;
+      registers = registers_of m;
+      state = state_of past m;
+    }
+
+-- values or an error for the frames that wait
+abbrev pub finishing : Outcome (List meant.Value) → Past → EngineView → Step
+finishing o past m = finish o (frames_of m) (registers_of m) (state_of past m)
+
+-- results that were put together as arguments are
+abbrev pub given_args : EngineView → Outcome (List meant.Value)
+given_args m = given (map (value_view m.heap.texts) m.args)
+
+-- a line was printed
+abbrev pub with_line : List ℕ → Past → Past
+with_line line past =
+    record {
+      asks = past.asks;
+      output = past.output ++ line;
+      ends = past.ends ++ length (past.output ++ line) ∷ [];
+    }
+
 -- where the engine is when a step came to a status
-abbrev pub step_as : Status → List Ask → EngineView → Step → Step
-step_as Goes asks m step = on (config_of asks m)
-step_as NoTick asks m step = stop (no_ticks (state_of asks m))
-step_as (Serves f) asks m step = on (serving_config f asks m)
-step_as (Raises v) asks m step =
-    raised (frames_of m) (registers_of m) (value_view m.heap.texts v) (state_of asks m)
-step_as Ends asks m step = stop (ended (map (value_view m.heap.texts) m.tail) (state_of asks m))
-step_as NotYet asks m step = step
+abbrev pub step_as : Status → Past → EngineView → Step
+step_as Goes past m = on (config_of past m)
+step_as NoTick past m = stop (no_ticks (state_of past m))
+step_as (Serves f) past m = on (serving_config f past m)
+step_as Gives past m = finishing (given_args m) past m
+step_as (Raises v) past m = finishing (failed (value_view m.heap.texts v)) past m
+step_as (Prints line) past m = finishing (given []) (with_line line.items past) m
+step_as (Asks question errand) past m = s.asks (ask_view question) (pending_of errand past m)
+step_as Ends past m = stop (ended (map (value_view m.heap.texts) m.args) (state_of past m))
+step_as (Fails v) past m = stop (s.failed (value_view m.heap.texts v) (state_of past m))
 
 -- an operand of the running function
 abbrev pub slot_of : EngineView → ℕ → meant.Value
@@ -77,29 +120,33 @@ slot_of m n = slots_view m.heap.texts m.values (m.base + n)
 abbrev pub constant_of : EngineView → ℕ → meant.Value
 constant_of m n = constant_at m.proto.constants n
 
--- an instruction that the engine doesn't do yet: there is none
-abbrev pub IsElsewhere : Instr → EngineView → Type 0
-IsElsewhere x m = ⊥
+-- what a reply is for was made by the heap
+abbrev pub IsMadeErrand : Errand → EngineView → Type 0
+IsMadeErrand (Answers call) m = love.IsMadeErrand m.heap call
+IsMadeErrand (ComesOut None) m = ⊤
+IsMadeErrand (ComesOut (Some v)) m = IsMade m.heap v
 
--- what is kept: the engine is ready for the next instruction, or for a function of the library; an error is a value of the
--- heap; and where nothing was done there is a cause
-abbrev pub IsKept : (yet : Type 0) → Status → EngineView → EngineView → Type 0
-IsKept yet Goes old new = IsReady new
-IsKept yet NoTick old new = ⊤
-IsKept yet (Serves f) old new = AreFit new
-IsKept yet (Raises v) old new = IsMade new.heap v
-IsKept yet Ends old new = ⊤
-IsKept yet NotYet old new = yet × (new ≡ old)
+-- what is kept: the engine is ready for the next instruction, or for a function of the library, or fit to go on; an error
+-- is a value of the heap
+abbrev pub IsKept : Status → EngineView → Type 0
+IsKept Goes m = IsReady m
+IsKept NoTick m = ⊤
+IsKept (Serves f) m = IsServing m
+IsKept Gives m = AreFit m
+IsKept (Raises v) m = IsMade m.heap v × AreFit m
+IsKept (Prints line) m = AreFit m × (m.args ≡ [])
+IsKept (Asks question errand) m = IsServing m × IsMadeErrand errand m
+IsKept Ends m = ⊤
+IsKept (Fails v) m = IsMade m.heap v
 
 -- a step came to a status
-pub record Came (does : List Ask → Step) (yet : Type 0) (status : Status) (old new : EngineView) :
-    Type 0 where
-  pub step : (asks : List Ask) → does asks ≡ step_as status asks new (does asks)
-  pub kept : IsKept yet status old new
+pub record Came (does : Past → Step) (status : Status) (new : EngineView) : Type 0 where
+  pub step : (past : Past) → does past ≡ step_as status past new
+  pub kept : IsKept status new
 
 -- an instruction came to a status
 abbrev pub Takes : Instr → Status → EngineView → EngineView → Type 0
-Takes x status old new = Came (λ asks. step_at x asks old) (IsElsewhere x old) status old new
+Takes x status old new = Came (λ past. step_at x past old) status new
 
 -- ---- what there is
 

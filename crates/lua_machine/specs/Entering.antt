@@ -1,5 +1,6 @@
 -- A function of Lua begins: its slots and cells are there, and so are its arguments.
-use Rattle.std.specs.Prelude.{◌≡◌, ℕ, ◌+◌, ◌^◌, ◌<◌, ◌≤◌, List, ◌++◌, length, map}
+use Rattle.std.specs.Prelude.{◌≡◌, ℕ, ◌+◌, ◌^◌, ◌<◌, ◌≤◌, List, [], ◌∷◌, ◌++◌, length, map}
+use Rattle.lua_heap.specs.declared.entries.Function.{Function}
 use Rattle.lua_heap.specs.declared.value.Value.{Value}
 use Rattle.lua_heap.specs.Value.{value_view}
 use Rattle.lua_heap.specs.Heap.{function_at}
@@ -11,7 +12,10 @@ use Rattle.lua_machine.specs.declared.frame.Wants.{Wants}
 use Rattle.lua_machine.specs.View.{EngineView, cell_at, slots_view, proto_at}
 use Rattle.lua_code.specs.View.{ProtoView}
 use Rattle.lua_machine.specs.Frames.{pushed}
-use Rattle.lua_machine.specs.Ready.{WantsFit, IsCode, IsReady}
+use Rattle.lua_machine.specs.declared.frame.Duty.{Duty}
+use Rattle.lua_machine.specs.declared.frame.Role.TheVariants.{Serves}
+use Rattle.lua_machine.specs.declared.frame.Frame.{Frame}
+use Rattle.lua_machine.specs.Ready.{WantsFit, IsCode, AreFit, IsReady}
 use Rattle.lua_machine.specs.Arguments.{args_at}
 
 -- there are slots up to a place, and all is as it was
@@ -28,8 +32,8 @@ pub record HasFunction (m : EngineView) (id : ℕ) : Type 0 where
   pub code : IsCode m.chunks (function_at m.heap id)
 
 -- the code of a function
-abbrev pub proto_for : EngineView → (id : ℕ) → ProtoView
-proto_for m id = proto_at m.chunks (function_at m.heap id).code (function_at m.heap id).proto
+abbrev pub proto_for : EngineView → Function → ProtoView
+proto_for m f = proto_at m.chunks f.code f.proto
 
 -- the running function may wait: there is a next instruction, and a slot for what is wanted; so are the slots of the
 -- arguments
@@ -41,12 +45,12 @@ pub record CanCall (wants : Wants) (first count : ℕ) (m : EngineView) : Type 0
   pub slots : first + count ≤ length m.values
 
 -- a function is at its first instruction
-abbrev pub begun_at : EngineView → (id base cell_base : ℕ) → EngineView
-begun_at m id base cell_base =
+abbrev pub begun_at : EngineView → Function → (base cell_base : ℕ) → EngineView
+begun_at m f base cell_base =
     record m {
-      proto = proto_for m id;
-      chunk = (function_at m.heap id).code;
-      func = (function_at m.heap id).proto;
+      proto = proto_for m f;
+      chunk = f.code;
+      func = f.proto;
       pc = 0;
       base = base;
       cell_base = cell_base;
@@ -61,33 +65,56 @@ abbrev pub called : Wants → (first : ℕ) → (args : List Value) → EngineVi
 called wants first args m =
     record (pushed m wants) { args = args; base = first; cell_base = free_cells m }
 
--- with other slots, cells and extra arguments, the running function waits and another one begins
-abbrev pub entered : Wants → (id first : ℕ) → (values : List Value) → (cells : List ℕ) →
+-- a function may begin: there are slots for its arguments, and cells before its own
+pub record CanBegin (first cell_base count : ℕ) (m : EngineView) : Type 0 where
+  pub fit : AreFit m
+  pub top : m.extra_base ≡ length m.extras
+  pub slots : first + count ≤ length m.values
+  pub cells : cell_base ≤ length m.cells
+
+-- with other slots, cells and extra arguments, a function begins
+abbrev pub begun_with : Function → (first cell_base : ℕ) → (values : List Value) → (cells : List ℕ) →
     (extra : List Value) → EngineView → EngineView
-entered wants id first values cells extra m =
-    begun_at (record (pushed m wants) {
+begun_with f first cell_base values cells extra m =
+    begun_at (record m {
       values = values;
       cells = cells;
       extras = m.extras ++ extra;
-    }) id first (free_cells m)
+    }) f first cell_base
 
 -- a function began on its arguments
-pub record HasEntered (wants : Wants) (id first count : ℕ) (behind : Behind) (old new : EngineView) :
+pub record HasBegun (f : Function) (first cell_base count : ℕ) (behind : Behind) (old new : EngineView) :
     Type 0 where
   pub values : List Value
   pub cells : List ℕ
   pub extra : List Value
-  pub is : new ≡ entered wants id first values cells extra old
+  pub is : new ≡ begun_with f first cell_base values cells extra old
   pub slots_are :
       slots_view old.heap.texts values
-      ≡ put_values (slots_view old.heap.texts old.values) first (proto_for old id).params
+      ≡ put_values (slots_view old.heap.texts old.values) first (proto_for old f).params
       (args_at old first count behind)
-  pub cells_are :
-      cell_at cells ≡ put_all (cell_at old.cells) (free_cells old) (function_at old.heap id).cells
+  pub cells_are : cell_at cells ≡ put_all (cell_at old.cells) cell_base f.cells
   pub extra_is :
       map (value_view old.heap.texts) extra
-      ≡ extra_of (proto_for old id).varargs (proto_for old id).params (args_at old first count behind)
-  pub room : first + (proto_for old id).size ≤ length values
+      ≡ extra_of (proto_for old f).varargs (proto_for old f).params (args_at old first count behind)
+  pub room : first + (proto_for old f).size ≤ length values
   pub longer : length old.values ≤ length values
-  pub height : free_cells old + length (function_at old.heap id).cells ≤ length cells
+  pub height : cell_base + length f.cells ≤ length cells
   pub taller : length old.cells ≤ length cells
+
+-- a function of the library waits, by its frame
+abbrev pub serving_frame : Duty → EngineView → Frame
+serving_frame duty m =
+    record {
+      chunk = m.chunk;
+      func = m.func;
+      pc = m.pc;
+      base = m.base;
+      cell_base = m.cell_base;
+      extra_base = m.extra_base;
+      role = Serves duty;
+    }
+
+abbrev pub pushed_duty : EngineView → Duty → EngineView
+pushed_duty m duty =
+    record m { frames = m.frames ++ serving_frame duty m ∷ []; extra_base = length m.extras }

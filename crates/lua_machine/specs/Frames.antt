@@ -1,8 +1,9 @@
 -- Calls that wait, and what they get.
-use Rattle.std.specs.Prelude.{◌≡◌, ◌+◌, ◌<◌, List, [], ◌∷◌, ◌++◌, length, take, Option, Some, None}
+use Rattle.std.specs.Prelude.{◌≡◌, ◌+◌, List, [], ◌∷◌, ◌++◌, length, take, Option, Some, None}
 use Rattle.lua_machine.specs.declared.frame.Wants.{Wants}
+use Rattle.lua_machine.specs.declared.frame.Role.TheVariants.{Waits}
 use Rattle.lua_machine.specs.declared.frame.Frame.{Frame}
-use Rattle.lua_machine.specs.View.{EngineView, protos_at, proto_at}
+use Rattle.lua_machine.specs.View.{EngineView, proto_at}
 
 -- the running function waits
 abbrev pub waiting : EngineView → Wants → Frame
@@ -14,7 +15,7 @@ waiting m wants =
       base = m.base;
       cell_base = m.cell_base;
       extra_base = m.extra_base;
-      wants = wants;
+      role = Waits wants;
     }
 
 abbrev pub pushed : EngineView → Wants → EngineView
@@ -36,18 +37,29 @@ resumed m frames f =
       extras = take m.extra_base m.extras;
     }
 
--- the frame on top went on, or there was none
+-- the frame on top, where there is one
+abbrev pub IsTop : Option Frame → List Frame → Type 0
+IsTop None all = all ≡ []
+IsTop (Some f) all = (frames : List Frame) × (all ≡ frames ++ f ∷ [])
+
+-- the frame on top went on
 pub record WentOn (f : Frame) (old new : EngineView) : Type 0 where
   pub frames : List Frame
   pub were : old.frames ≡ frames ++ f ∷ []
   pub are : new ≡ resumed old frames f
 
-abbrev pub WentOnOr : Option Frame → EngineView → EngineView → Type 0
-WentOnOr None old new = (old.frames ≡ []) × (new ≡ old)
-WentOnOr (Some f) old new = WentOn f old new
+-- a frame is taken off
+abbrev pub taken_off : EngineView → List Frame → Frame → EngineView
+taken_off m frames f =
+    record m {
+      frames = frames;
+      base = f.base;
+      cell_base = f.cell_base;
+      extra_base = f.extra_base;
+      extras = take m.extra_base m.extras;
+    }
 
--- the function of the frame on top is there
-abbrev pub TopHasCode : EngineView → Type 0
-TopHasCode m =
-    (frames : List Frame) (f : Frame) → m.frames ≡ frames ++ f ∷ [] →
-    f.func < length (protos_at m.chunks f.chunk)
+pub record WasTakenOff (f : Frame) (old new : EngineView) : Type 0 where
+  pub frames : List Frame
+  pub were : old.frames ≡ frames ++ f ∷ []
+  pub are : new ≡ taken_off old frames f

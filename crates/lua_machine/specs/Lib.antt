@@ -1,3 +1,4 @@
+pub mod Past
 pub mod View
 pub mod Made
 pub mod Constants
@@ -18,3 +19,11 @@ pub mod Entering
 pub mod Calling
 pub mod Settled
 pub mod Handling
+pub mod Back
+pub mod Fulfilling
+pub mod Asking
+pub mod Refusing
+pub mod Basics
+pub mod Texts
+pub mod Printing
+pub mod Requiring

@@ -11,6 +11,8 @@ use Rattle.lua_code.specs.Within.{slots_of, AreKnown}
 use Rattle.lua_code.specs.Valid.{AreValid, Uses, Reaches, cells_at, cells_behind}
 use Rattle.lua_machine.specs.declared.frame.Wants.{Wants}
 use Rattle.lua_machine.specs.declared.frame.Wants.TheVariants.{ToSlot, TruthTo, UntruthTo, ToTail, Nothing}
+use Rattle.lua_machine.specs.declared.frame.Role.{Role}
+use Rattle.lua_machine.specs.declared.frame.Role.TheVariants.{Waits, Serves}
 use Rattle.lua_machine.specs.declared.frame.Frame.{Frame}
 use Rattle.lua_machine.specs.declared.chunk.Chunk.{Chunk}
 use Rattle.lua_machine.specs.View.{EngineView, protos_at, proto_at}
@@ -31,10 +33,18 @@ WantsFit base count (UntruthTo n) = base + n < count
 WantsFit base count ToTail = ⊤
 WantsFit base count Nothing = ⊤
 
--- so is a function that waits, and the slot for what it wants
-pub record IsWaiting (chunks : List Chunk) (slots cells : ℕ) (f : Frame) : Type 0 where
+-- so is a function of Lua that waits, and the slot for what it wants
+pub record IsPaused (chunks : List Chunk) (slots cells : ℕ) (wanted : Wants) (f : Frame) : Type 0 where
   pub placed : IsPlaced chunks slots cells f.chunk f.func f.pc f.base f.cell_base
-  pub wants : WantsFit f.base slots f.wants
+  pub wants : WantsFit f.base slots wanted
+
+abbrev pub IsWaitingAs : Role → (chunks : List Chunk) → (slots cells : ℕ) → Frame → Type 0
+IsWaitingAs (Waits wants) chunks slots cells f = IsPaused chunks slots cells wants f
+IsWaitingAs (Serves duty) chunks slots cells f = (f.base ≤ slots) × (f.cell_base ≤ cells)
+
+-- a frame may go on
+abbrev pub IsWaiting : (chunks : List Chunk) → (slots cells : ℕ) → Frame → Type 0
+IsWaiting chunks slots cells f = IsWaitingAs f.role chunks slots cells f
 
 -- a function that the program made is one of a chunk's, with as many cells as that holds
 pub record IsCode (chunks : List Chunk) (f : Function) : Type 0 where
@@ -55,6 +65,12 @@ pub record AreFit (m : EngineView) : Type 0 where
   pub frames : AllByRecursion (IsWaiting m.chunks (length m.values) (length m.cells)) m.frames
   pub functions : AllByRecursion (IsCode m.chunks) m.heap.functions
   pub chunks : AllByRecursion (IsLoaded m.heap.texts) m.chunks
+
+-- a function of the library runs: it has slots and cells to give
+pub record IsServing (m : EngineView) : Type 0 where
+  pub fit : AreFit m
+  pub slots : m.base ≤ length m.values
+  pub cells : m.cell_base ≤ length m.cells
 
 pub record IsReady (m : EngineView) : Type 0 where
   pub placed :

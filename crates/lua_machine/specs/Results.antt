@@ -2,16 +2,16 @@
 use Rattle.std.specs.Prelude.{◌≡◌, ℕ, ◌+◌, List, [], ◌++◌, map, set, Bool, true, false, not, ⊤, slice_range}
 use Rattle.lua_meaning.specs.Value as meant
 use Rattle.lua_meaning.specs.Value.{is_true}
-use Rattle.lua_meaning.specs.Message.{Ask}
 use Rattle.lua_heap.specs.declared.value.Value.{Value}
 use Rattle.lua_heap.specs.declared.value.Value.TheVariants.{Bool as Flag}
 use Rattle.lua_heap.specs.Value.{value_view}
-use Rattle.lua_code.specs.Instr as i
-use Rattle.lua_code.specs.State.{row, stop, ended}
+use Rattle.lua_code.specs.State.{row}
 use Rattle.lua_machine.specs.declared.frame.Wants.{Wants}
 use Rattle.lua_machine.specs.declared.frame.Wants.TheVariants.{ToSlot, TruthTo, UntruthTo, ToTail, Nothing}
-use Rattle.lua_machine.specs.View.{EngineView, slots_view, state_of}
-use Rattle.lua_machine.specs.Does.{step_of, Did}
+use Rattle.lua_machine.specs.View.{EngineView, slots_view}
+use Rattle.lua_machine.specs.declared.status.Status.{Status}
+use Rattle.lua_machine.specs.declared.status.Status.TheVariants.{Gives}
+use Rattle.lua_machine.specs.Arguments as args
 
 abbrev pub tail_where : Bool → List Value → List Value
 tail_where true tail = tail
@@ -45,9 +45,8 @@ received_values (UntruthTo n) v m = set m.values (m.base + n) (Flag (not (truth 
 received_values ToTail v m = m.values
 received_values Nothing v m = m.values
 
--- the function's results came, or they are the run's
-abbrev pub LeftOr : Bool → i.Instr → EngineView → EngineView → Type 0
-LeftOr true x old new = Did x old new
-LeftOr false x old new =
-    (asks : List Ask) →
-    step_of x asks old ≡ stop (ended (map (value_view new.heap.texts) new.tail) (state_of asks new))
+-- values of slots, and the tail where it is wanted, are put together as arguments are
+abbrev pub Gathers : (first count : ℕ) → Bool → Status → EngineView → EngineView → Type 0
+Gathers first count tailed status old new =
+    (status ≡ Gives)
+    × (new ≡ record old { args = args.given old first count (args.behind_where tailed) })

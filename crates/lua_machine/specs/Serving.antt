@@ -1,10 +1,9 @@
 -- Functions of the library, as steps of the definitions' machine.
-use Rattle.std.specs.Prelude.{◌≡◌, Bool, true, false, List, [], ◌∷◌, ◌++◌, map, Option, Some, None, IsFalse}
+use Rattle.std.specs.Prelude.{◌≡◌, ℕ, suc, ◌*◌, ◌-◌, ◌<◌, Bool, true, false, List, [], ◌∷◌, ◌++◌, length, Option, Some, None, IsFalse, ⊤}
 use Rattle.lua_tree.specs.Tree.{Bytes}
 use Rattle.lua_meaning.specs.Value.{str}
-use Rattle.lua_meaning.specs.Message.{Ask}
-use Rattle.lua_meaning.specs.World.{given}
-use Rattle.lua_meaning.specs.Fault.{Fault as Error, fault_value}
+use Rattle.lua_machine.specs.Past.{Past}
+use Rattle.lua_meaning.specs.Fault.{Fault as Error, placed, fault_value}
 use Rattle.lua_meaning.specs.Calls.{caller}
 use Rattle.lua_heap.specs.declared.native.Native.{Native}
 use Rattle.lua_heap.specs.declared.value.Value.{Value}
@@ -15,34 +14,49 @@ use Rattle.lua_lib.specs.declared.fault.Fault.TheVariants.{Memory}
 use Rattle.lua_lib.specs.declared.call.cause.Cause.{Cause}
 use Rattle.lua_lib.specs.declared.call.cause.Cause.TheVariants.{By}
 use Rattle.lua_lib.specs.Causes.{error_of}
-use Rattle.lua_lib.specs.Here.{is_here}
-use Rattle.lua_code.specs.State.{Step}
-use Rattle.lua_code.specs.Frames.{places, finish}
+use Rattle.lua_code.specs.Frames.{places}
 use Rattle.lua_code.specs.Natives.{Program}
 use Rattle.lua_code.specs.Act.{act}
 use Rattle.lua_machine.specs.declared.frame.Frame.{Frame}
 use Rattle.lua_machine.specs.declared.status.Status.{Status}
-use Rattle.lua_machine.specs.View.{EngineView, frames_of, registers_of, state_of, config_of, serving_config}
-use Rattle.lua_machine.specs.Does.{Came}
+use Rattle.lua_machine.specs.declared.status.Status.TheVariants.{Gives, Raises}
+use Rattle.lua_machine.specs.View.{EngineView, protos_at, proto_at, place_of, frames_of, config_of, serving_config}
+use Rattle.lua_machine.specs.Does.{step_as, Came}
+use Rattle.lua_machine.specs.Ready.{AreFit}
 
 -- ---- results
 
--- results, which were put together as arguments are, go to the frames that wait
-abbrev pub giving_step : List Ask → EngineView → Step
-giving_step asks m =
-    finish (given (map (value_view m.heap.texts) m.args)) (frames_of m) (registers_of m)
-    (state_of asks m)
-
--- they came to a status
+-- results, which were put together as arguments are, went to the frame on top
 abbrev pub Delivers : Status → EngineView → EngineView → Type 0
-Delivers status old new = Came (λ asks. giving_step asks old) ⊥ status old new
+Delivers status old new = Came (λ past. step_as Gives past old) status new
+
+-- so did an error
+abbrev pub Unwinds : Value → Status → EngineView → EngineView → Type 0
+Unwinds v status old new = Came (λ past. step_as (Raises v) past old) status new
+
+-- how far there is to go to the last frame
+abbrev pub frames_left : Status → EngineView → ℕ
+frames_left Gives m = suc (suc (2 * length m.frames))
+frames_left (Raises v) m = suc (2 * length m.frames)
+frames_left status m = 0
+
+-- there is less to go
+abbrev pub Falls : (from to : Status) → EngineView → EngineView → Type 0
+Falls from Gives old new = frames_left Gives new < frames_left from old
+Falls from (Raises v) old new = frames_left (Raises v) new < frames_left from old
+Falls from to old new = ⊤
 
 -- ---- errors
 
--- the frame on top, where there is one
-abbrev pub IsTop : Option Frame → List Frame → Type 0
-IsTop None all = all ≡ []
-IsTop (Some f) all = (frames : List Frame) × (all ≡ frames ++ f ∷ [])
+-- the function of Lua that made the call of the one that runs, where one did: its code is there, and so is the call's site
+pub record IsCallerOf (f : Frame) (m : EngineView) : Type 0 where
+  pub place : caller (places (frames_of m)) ≡ Some (place_of m.chunks f)
+  pub known : f.func < length (protos_at m.chunks f.chunk)
+  pub inside : f.pc - 1 < length (proto_at m.chunks f.chunk f.func).sites
+
+abbrev pub IsCaller : Option Frame → EngineView → Type 0
+IsCaller None m = caller (places (frames_of m)) ≡ None
+IsCaller (Some f) m = IsCallerOf f m
 
 -- memory was refused
 abbrev pub is_memory : Cause → Bool
@@ -53,7 +67,13 @@ is_memory cause = false
 pub record IsText (text : Bytes) (value : Value) (old new : EngineView) : Type 0 where
   pub value_is : value_view new.heap.texts value ≡ str text
   pub made : IsMade new.heap value
-  pub same : (asks : List Ask) → config_of asks new ≡ config_of asks old
+  pub same : (past : Past) → config_of past new ≡ config_of past old
+  pub fit : AreFit new
+
+-- so is that of an error with a text, behind the place of the caller where that is a function of Lua
+abbrev pub IsRefusal : Bytes → Value → EngineView → EngineView → Type 0
+IsRefusal text value old new =
+    IsText (placed (caller (places (frames_of old))) text) value old new
 
 -- the value of a cause's error is there, and to the definitions nothing else has changed
 pub record Failed (f : Native) (cause : Cause) (value : Value) (old new : EngineView) : Type 0 where
@@ -63,16 +83,17 @@ pub record Failed (f : Native) (cause : Cause) (value : Value) (old new : Engine
       value_view new.heap.texts value
       ≡ fault_value (native_view f) (caller (places (frames_of old))) error
   pub made : IsMade new.heap value
-  pub same : (asks : List Ask) → config_of asks new ≡ config_of asks old
+  pub same : (past : Past) → config_of past new ≡ config_of past old
+  pub fit : AreFit new
 
 -- ---- calls
 
--- a function of the library came to a status, in whatever program
-abbrev pub Served : Native → Status → EngineView → EngineView → Type 0
-Served f status old new =
-    (program : Program) → Came (λ asks. act program (serving_config f asks old)) ⊥ status old new
+-- a function of the library came to a status
+abbrev pub Served : Program → Native → Status → EngineView → EngineView → Type 0
+Served program f status old new =
+    Came (λ past. act program (serving_config f past old)) status new
 
--- or it isn't there yet, and the engine is as it was
-abbrev pub ServedOr : Option Status → Native → EngineView → EngineView → Type 0
-ServedOr (Some status) f old new = Served f status old new
-ServedOr None f old new = IsFalse (is_here (native_view f)) × (new ≡ old)
+-- or it is elsewhere, and the engine is as it was
+abbrev pub ServedOr : (here : Bool) → Option Status → Native → EngineView → EngineView → Type 0
+ServedOr here (Some status) f old new = (program : Program) → Served program f status old new
+ServedOr here None f old new = IsFalse here × (new ≡ old)

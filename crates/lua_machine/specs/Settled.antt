@@ -2,7 +2,7 @@
 use Rattle.std.specs.Prelude.{ℕ, ◌+◌, List}
 use Rattle.lua_tree.specs.View.{binary_view}
 use Rattle.lua_tree.specs.declared.tree.BinOp.{BinOp}
-use Rattle.lua_meaning.specs.Message.{Ask}
+use Rattle.lua_machine.specs.Past.{Past}
 use Rattle.lua_meaning.specs.Handlers as handlers
 use Rattle.lua_meaning.specs.Handlers.{Setting}
 use Rattle.lua_heap.specs.declared.value.Value.{Value}
@@ -24,24 +24,24 @@ abbrev pub GoesOn : EngineView → Type 0
 GoesOn m = Leads m.proto (cells_at m.proto m.pc) (m.pc + 1)
 
 -- an operator came to something, for a slot
-abbrev pub doing_step : (to : ℕ) → Doing → EngineView → List Ask → Step
-doing_step to doing m asks =
-    act.does (run_of m) (frames_of m) (registers_of m) (state_of asks m) (site_at m.proto m.pc) to
+abbrev pub doing_step : (to : ℕ) → Doing → EngineView → Past → Step
+doing_step to doing m past =
+    act.does (run_of m) (frames_of m) (registers_of m) (state_of past m) (site_at m.proto m.pc) to
     (does m.heap doing)
 
 abbrev pub Settles : (to : ℕ) → Doing → Status → EngineView → EngineView → Type 0
 Settles to doing status old new =
-    Came (doing_step to doing old) ⊥ status old new
+    Came (doing_step to doing old) status new
 
 -- what setting a field comes to
-abbrev pub storing_step : Setting → (key value : Value) → EngineView → List Ask → Step
-storing_step s key value m asks =
-    act.sets (run_of m) (frames_of m) (registers_of m) (state_of asks m) (site_at m.proto m.pc)
+abbrev pub storing_step : Setting → (key value : Value) → EngineView → Past → Step
+storing_step s key value m past =
+    act.sets (run_of m) (frames_of m) (registers_of m) (state_of past m) (site_at m.proto m.pc)
     (value_view m.heap.texts key) (value_view m.heap.texts value) s
 
 abbrev pub StoresAs : Setting → (key value : Value) → Status → EngineView → EngineView → Type 0
 StoresAs s key value status old new =
-    EachTakes (storing_step s key value old) ⊥ status old new
+    EachTakes (storing_step s key value old) status old new
 
 -- a field is set
 abbrev pub setting_of : (base key : Value) → EngineView → Setting
@@ -57,12 +57,12 @@ operation op left right m =
     code.binary_doing (binary_view op) (store_of m.heap) (value_view m.heap.texts left)
     (value_view m.heap.texts right)
 
-abbrev pub operation_step : BinOp → (to : ℕ) → (left right : Value) → EngineView → List Ask → Step
-operation_step op to left right m asks =
-    act.does (run_of m) (frames_of m) (registers_of m) (state_of asks m) (site_at m.proto m.pc) to
+abbrev pub operation_step : BinOp → (to : ℕ) → (left right : Value) → EngineView → Past → Step
+operation_step op to left right m past =
+    act.does (run_of m) (frames_of m) (registers_of m) (state_of past m) (site_at m.proto m.pc) to
     (operation op left right m)
 
 abbrev pub Operates : BinOp → (to : ℕ) → (left right : Value) → Status → EngineView → EngineView →
     Type 0
 Operates op to left right status old new =
-    Came (operation_step op to left right old) ⊥ status old new
+    Came (operation_step op to left right old) status new

@@ -2,7 +2,7 @@
 use Rattle.std.specs.Prelude.{◌≡◌, ℕ, ◌+◌, ℤ, Bool, true, false, List, length, set, Option, Some, None, Result, Ok, Err, codes, ◌⊎◌}
 use Rattle.lua_tree.specs.Tree.{Bytes}
 use Rattle.lua_meaning.specs.Text.{as_number}
-use Rattle.lua_meaning.specs.Message.{Ask}
+use Rattle.lua_machine.specs.Past.{Past}
 use Rattle.lua_heap.specs.declared.value.Value.{Value}
 use Rattle.lua_heap.specs.declared.value.Value.TheVariants.{Num}
 use Rattle.lua_code.specs.State.{Step, on, stop, no_ticks}
@@ -45,16 +45,16 @@ with_numbers x at n m k = record x {
 }
 
 -- what a turn does
-abbrev pub turn_of : (at body exit : ℕ) → (n m k : ℤ) → List Ask → EngineView → Step
-turn_of at body exit n m k asks x =
-    turns (run_of x) (frames_of x) (registers_of x) (state_of asks x) at body exit n m k
+abbrev pub turn_of : (at body exit : ℕ) → (n m k : ℤ) → Past → EngineView → Step
+turn_of at body exit n m k past x =
+    turns (run_of x) (frames_of x) (registers_of x) (state_of past x) at body exit n m k
 
 -- it began or there was none; or it wants a tick and none is left
 abbrev pub TurnedOr : Bool → (at body exit : ℕ) → (n m k : ℤ) → EngineView → EngineView → Type 0
 TurnedOr true at body exit n m k old new =
-    (asks : List Ask) → turn_of at body exit n m k asks old ≡ on (config_of asks new)
+    (past : Past) → turn_of at body exit n m k past old ≡ on (config_of past new)
 TurnedOr false at body exit n m k old new =
-    (asks : List Ask) → turn_of at body exit n m k asks new ≡ stop (no_ticks (state_of asks new))
+    (past : Past) → turn_of at body exit n m k past new ≡ stop (no_ticks (state_of past new))
 
 -- it began or there was none: the engine is at one of two places, and slots and ticks changed alone
 pub record HasTurned (body exit : ℕ) (old new : EngineView) : Type 0 where

@@ -2,6 +2,7 @@
 
 use crate::chunk::Chunk;
 use crate::frame::Frame;
+use crate::module::Module;
 use lua_code::Proto;
 use lua_heap::{CellId, Heap, Value};
 use lua_operators::Events;
@@ -28,6 +29,8 @@ pub(crate) struct Engine<'a> {
     pub(crate) args: Vec<Value>,
     // The calls that wait, the last one on top.
     pub(crate) frames: Vec<Frame>,
+    // The modules that `require` was asked for, the last one at the end.
+    pub(crate) modules: Vec<Module>,
     // The function that runs, its code, its next instruction, and its first slot, cell and extra
     // argument.
     pub(crate) chunk: u32,
@@ -37,8 +40,6 @@ pub(crate) struct Engine<'a> {
     pub(crate) base: usize,
     pub(crate) cell_base: usize,
     pub(crate) extra_base: usize,
-    pub(crate) output: Vec<u8>,
-    pub(crate) ends: Vec<usize>,
     pub(crate) ticks: u32,
 }
 
@@ -59,14 +60,13 @@ impl<'a> Model for Engine<'a> {
       extras = m.extras.items;
       args = m.args.items;
       frames = m.frames.items;
+      modules = m.modules.items;
       chunk = m.chunk;
       func = m.func;
       pc = m.pc;
       base = m.base;
       cell_base = m.cell_base;
       extra_base = m.extra_base;
-      output = m.output.items;
-      ends = m.ends.items;
       ticks = m.ticks;
     } };
 
@@ -81,14 +81,13 @@ impl<'a> Model for Engine<'a> {
       extras = m.extras.items;
       args = m.args.items;
       frames = m.frames.items;
+      modules = m.modules.items;
       chunk = m.chunk;
       func = m.func;
       pc = m.pc;
       base = m.base;
       cell_base = m.cell_base;
       extra_base = m.extra_base;
-      output = m.output.items;
-      ends = m.ends.items;
       ticks = m.ticks;
     }) };
 }

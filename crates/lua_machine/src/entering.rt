@@ -2,9 +2,9 @@
 
 ghost use Rattle.std.specs.Prelude.{◌≡◌, ◌+◌, ◌<◌, ◌≤◌, length, OnOk};
 ghost use Rattle.lua_heap.specs.Heap.{function_at};
-ghost use Rattle.lua_machine.specs.View.{proto_at};
 ghost use Rattle.lua_machine.specs.Arguments.{given, all_put};
-ghost use Rattle.lua_machine.specs.Entering.{HasGrown, HasFunction, CanCall, begun_at, called, HasEntered};
+ghost use Rattle.lua_machine.specs.Frames.{pushed};
+ghost use Rattle.lua_machine.specs.Entering.{HasGrown, HasFunction, proto_for, CanCall, CanBegin, begun_at, free_cells, called, HasBegun};
 
 use crate::arguments::Behind;
 use crate::engine::Engine;
@@ -38,8 +38,7 @@ impl<'a> Engine<'a> {
     #[inline]
     fn proto_of(&self, id: FuncId) -> &'a Proto
         requires function { HasFunction self.now id }
-        ensures { result.now ≡ proto_at self.now.chunks (function_at self.now.heap id).code
-            (function_at self.now.heap id).proto }
+        ensures { result.now ≡ proto_for self.now (function_at self.now.heap id) }
     {
         let code = self.chunks[self.heap.func_code(id) as usize].code;
         &code.protos()[self.heap.func_proto(id) as usize]
@@ -64,7 +63,7 @@ impl<'a> Engine<'a> {
     #[inline]
     fn begin_at(&mut self, id: FuncId, base: usize, cell_base: usize)
         requires function { HasFunction self.old id }
-        ensures { self.new ≡ begun_at self.old id base cell_base }
+        ensures { self.new ≡ begun_at self.old (function_at self.old.heap id) base cell_base }
     {
         self.proto = self.proto_of(id);
         self.chunk = self.heap.func_code(id);
@@ -72,6 +71,32 @@ impl<'a> Engine<'a> {
         self.pc = 0;
         self.base = base;
         self.cell_base = cell_base;
+    }
+
+    // A function begins on arguments, with slots and cells from two places on. Its caller's frame is
+    // on top.
+    pub(crate) fn begin_on(
+        &mut self,
+        id: FuncId,
+        first: usize,
+        cell_base: usize,
+        count: usize,
+        behind: Behind,
+    ) -> Result<(), Memory>
+        requires function { HasFunction self.old id }
+        requires ready { CanBegin first cell_base count self.old }
+        ensures { OnOk result (HasBegun (function_at self.old.heap id) first cell_base count behind
+            self.old self.new) }
+    {
+        let _values = &self.values;
+        let proto = self.proto_of(id);
+        let params = proto.params() as usize;
+        self.keep_extra(proto.is_vararg(), params, first, count, behind)?;
+        self.make_room(first, proto.size())?;
+        self.fill_slots(first + count, params.saturating_sub(count), behind);
+        self.copy_cells(cell_base, id)?;
+        self.begin_at(id, first, cell_base);
+        Ok(())
     }
 
     // The running function waits, and another one begins on arguments.
@@ -85,18 +110,12 @@ impl<'a> Engine<'a> {
     ) -> Result<(), Memory>
         requires function { HasFunction self.old id }
         requires ready { CanCall wants first count self.old }
-        ensures { OnOk result (HasEntered wants id first count behind self.old self.new) }
+        ensures { OnOk result (HasBegun (function_at self.old.heap id) first (free_cells self.old)
+            count behind (pushed self.old wants) self.new) }
     {
-        let proto = self.proto_of(id);
         let cell_base = self.cell_base + self.proto.cells(self.pc);
-        let params = proto.params() as usize;
         self.push(wants)?;
-        self.keep_extra(proto.is_vararg(), params, first, count, behind)?;
-        self.make_room(first, proto.size())?;
-        self.fill_slots(first + count, params.saturating_sub(count), behind);
-        self.copy_cells(cell_base, id)?;
-        self.begin_at(id, first, cell_base);
-        Ok(())
+        self.begin_on(id, first, cell_base, count, behind)
     }
 
     // The running function waits, and one of the library is to run on arguments.

@@ -12,7 +12,12 @@ use love_base::Memory;
 use lua_heap::Value;
 
 // A buffer gets a text behind its place, in the place of what it has.
-fn put_placed(buffer: &mut Vec<u8>, file: &[u8], line: u32, text: &[u8]) -> Result<(), Memory>
+pub(crate) fn put_placed(
+    buffer: &mut Vec<u8>,
+    file: &[u8],
+    line: u32,
+    text: &[u8],
+) -> Result<(), Memory>
     ensures { OnOk result (buffer.new.items
         ≡ placed (Some (record { file = file.now; line = line })) text.now) }
 {

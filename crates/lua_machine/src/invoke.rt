@@ -8,7 +8,7 @@ ghost use Rattle.lua_heap.specs.Heap.{IsMade};
 ghost use Rattle.lua_heap.specs.Native.{native_view};
 ghost use Rattle.lua_code.specs.declared.instr.Instr.TheVariants.{Invoke, InvokeAll};
 ghost use Rattle.lua_code.specs.Frames.{built_in};
-ghost use Rattle.lua_machine.specs.Ready.{IsReady, IsReadyFor};
+ghost use Rattle.lua_machine.specs.Ready.{AreFit, IsReady, IsReadyFor};
 ghost use Rattle.lua_machine.specs.Does.{Takes};
 ghost use Rattle.lua_machine.specs.Errors.{Raised};
 ghost use Rattle.lua_machine.specs.Callees.{callee_at};
@@ -39,10 +39,10 @@ pub(crate) enum Callee {
 }
 
 // How many calls may be active.
-const MOST_CALLS: usize = 4096;
+pub(crate) const MOST_CALLS: usize = 4096;
 
 // What a call of a value says that can't be called.
-fn refusal(alloc: Global, value: &Value) -> Result<Vec<u8>, Memory>
+pub(crate) fn refusal_text(alloc: Global, value: &Value) -> Result<Vec<u8>, Memory>
     ensures { IfOk result (λ text. (texts : List Bytes) →
         text.items ≡ call_text (value_view texts value.now)) }
 {
@@ -55,8 +55,8 @@ fn refusal(alloc: Global, value: &Value) -> Result<Vec<u8>, Memory>
 impl<'a> Engine<'a> {
     // What a call of a value runs.
     #[inline]
-    fn callee(&self, value: &Value) -> Callee
-        requires ready { IsReady self.now }
+    pub(crate) fn callee(&self, value: &Value) -> Callee
+        requires fit { AreFit self.now }
         requires made { IsMade self.now.heap value.now }
         ensures { IsCallee result value.now self.now }
     {
@@ -70,7 +70,7 @@ impl<'a> Engine<'a> {
     // The same, where it is no function.
     #[inline(never)]
     fn handling_callee(&self, value: &Value) -> Callee
-        requires ready { IsReady self.now }
+        requires fit { AreFit self.now }
         requires made { IsMade self.now.heap value.now }
         requires other { IsNoFunction value.now }
         ensures { IsCallee result value.now self.now }
@@ -142,7 +142,7 @@ impl<'a> Engine<'a> {
         ensures { IfOk result (λ error. Raised
             (call_text (value_view self.old.heap.texts value.now)) error self.old self.new) }
     {
-        let text = refusal(self.alloc, value)?;
+        let text = refusal_text(self.alloc, value)?;
         self.error(text.as_slice())
     }
 

@@ -99,7 +99,7 @@ impl<'a> Engine<'a> {
         requires key { IsMade self.old.heap key }
         requires value { IsMade self.old.heap value }
         ensures { IfOk result (λ status.
-            EachTakes (new_field_step table key value self.old) ⊥ status self.old self.new) }
+            EachTakes (new_field_step table key value self.old) status self.old self.new) }
     {
         match self.at(table) {
             Value::Table(id) => self.put_raw(id, key, value),
@@ -123,7 +123,7 @@ impl<'a> Engine<'a> {
         requires key { IsMade self.old.heap key }
         requires value { IsMade self.old.heap value }
         ensures { IfOk result (λ status.
-            EachTakes (raw_step id key value self.old) ⊥ status self.old self.new) }
+            EachTakes (raw_step id key value self.old) status self.old self.new) }
     {
         if let Value::Nil = key {
             let error = self.error(b"table index is nil")?;

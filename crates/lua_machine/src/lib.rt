@@ -2,13 +2,18 @@
 #![tactic(auto)]
 
 mod arguments;
+mod asking;
+mod back;
+mod basics;
 mod calls;
 mod cells;
 mod chunk;
 mod closures;
+mod delivering;
 mod each;
 mod engine;
 mod entering;
+mod errand;
 mod errors;
 mod extras;
 mod fields;
@@ -19,10 +24,15 @@ mod items;
 mod jumps;
 mod loading;
 mod loops;
+mod module;
 mod moves;
 mod numbers;
 mod operators;
+mod own;
+mod printing;
+mod refusing;
 mod registers;
+mod requiring;
 mod results;
 mod serving;
 mod setting;
@@ -32,3 +42,4 @@ mod steps;
 mod tables;
 #[cfg(test)]
 mod tests;
+mod texts;

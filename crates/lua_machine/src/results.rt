@@ -5,13 +5,17 @@ ghost use Rattle.lua_meaning.specs.Value.{first as first_of};
 ghost use Rattle.lua_heap.specs.Heap.{IsMade};
 ghost use Rattle.lua_heap.specs.Value.{value_view};
 ghost use Rattle.lua_code.specs.declared.instr.Instr.TheVariants.{Leave};
-ghost use Rattle.lua_machine.specs.Results.{held_at, results_at, received_values, truth, WantsOne};
+ghost use Rattle.lua_machine.specs.Results.{held_at, results_at, received_values, truth, WantsOne, Gathers};
 ghost use Rattle.lua_machine.specs.Ready.{WantsFit, AreFit, IsReadyFor};
 ghost use Rattle.lua_machine.specs.Does.{Takes};
+ghost use Rattle.lua_machine.specs.Frames.{IsTop};
 ghost use Rattle.lua_machine.specs.Serving.{Delivers};
+ghost use Rattle.lua_machine.specs.declared.frame.Role.TheVariants.{Waits};
+ghost use Rattle.lua_machine.specs.declared.status.Status.TheVariants.{Goes};
 
+use crate::arguments::behind_where;
 use crate::engine::Engine;
-use crate::frame::Wants;
+use crate::frame::{Frame, Role, Wants};
 use crate::status::Status;
 use love_base::Memory;
 use lua_heap::Value;
@@ -79,31 +83,39 @@ impl<'a> Engine<'a> {
         }
     }
 
+    // The results of the running function go to the frames that wait, put together as arguments are.
+    fn give(&mut self, first: usize, count: u32, tailed: bool) -> Result<Status, Memory>
+        requires slots { first + count ≤ length self.old.values }
+        ensures { IfOk result (λ status. Gathers first count tailed status self.old self.new) }
+    {
+        self.put_args(first, count as usize, behind_where(tailed))?;
+        Ok(Status::Gives)
+    }
+
     // The running function ends.
     pub(crate) fn leave(&mut self, from: u32, count: u32, tailed: bool) -> Result<Status, Memory>
         requires ready { IsReadyFor (Leave from count tailed) self.old }
         ensures { IfOk result (λ status. Takes (Leave from count tailed) status self.old self.new) }
     {
         let first = self.base + from as usize;
-        match self.pop() {
-            None => {
-                self.gather(first, count, tailed)?;
-                Ok(Status::Ends)
-            }
-            Some(frame) => {
-                if let Wants::ToTail = frame.wants {
-                    self.gather(first, count, tailed)?;
-                    return Ok(Status::Goes);
-                }
-                let value = self.first_of(first, count, tailed);
-                self.receive(frame.wants, value);
-                Ok(Status::Goes)
-            }
+        let Some(frame) = self.top() else {
+            return self.give(first, count, tailed);
+        };
+        let Role::Waits(wants) = frame.role else {
+            return self.give(first, count, tailed);
+        };
+        self.resume(frame);
+        if let Wants::ToTail = wants {
+            self.gather(first, count, tailed)?;
+            return Ok(Status::Goes);
         }
+        let value = self.first_of(first, count, tailed);
+        self.receive(wants, value);
+        Ok(Status::Goes)
     }
 
     // The first of the results that were put together as arguments are.
-    fn first_arg(&self) -> Value
+    pub(crate) fn first_arg(&self) -> Value
         ensures value { value_view self.now.heap.texts result
             ≡ first_of (map (value_view self.now.heap.texts) self.now.args) }
         ensures made { IsMade self.now.heap result }
@@ -123,26 +135,20 @@ impl<'a> Engine<'a> {
         Ok(())
     }
 
-    // They go to the frame on top.
-    pub(crate) fn deliver(&mut self) -> Result<Status, Memory>
+    // The function of Lua on top gets them, and goes on.
+    pub(crate) fn receive_args(&mut self, frame: Frame, wants: Wants) -> Result<(), Memory>
+        requires top { IsTop (Some frame) self.old.frames }
+        requires waits { frame.role ≡ Waits wants }
         requires fit { AreFit self.old }
-        ensures { IfOk result (λ status. Delivers status self.old self.new) }
+        ensures { OnOk result (Delivers Goes self.old self.new) }
     {
         let _frames = &self.frames;
-        match self.pop() {
-            None => {
-                self.keep_args()?;
-                Ok(Status::Ends)
-            }
-            Some(frame) => {
-                if let Wants::ToTail = frame.wants {
-                    self.keep_args()?;
-                    return Ok(Status::Goes);
-                }
-                let value = self.first_arg();
-                self.receive(frame.wants, value);
-                Ok(Status::Goes)
-            }
+        self.resume(frame);
+        if let Wants::ToTail = wants {
+            return self.keep_args();
         }
+        let value = self.first_arg();
+        self.receive(wants, value);
+        Ok(())
     }
 }

@@ -5,14 +5,16 @@ ghost use Rattle.lua_heap.specs.Native.{native_view};
 ghost use Rattle.lua_heap.specs.Heap.{IsMade};
 ghost use Rattle.lua_lib.specs.Texts.{cause_text, placed_text};
 ghost use Rattle.lua_machine.specs.View.{protos_at, proto_at, line_of, place_of};
-ghost use Rattle.lua_machine.specs.Ready.{IsWaiting, AreFit};
-ghost use Rattle.lua_machine.specs.Serving.{IsTop, is_memory, IsText, Failed, ServedOr};
+ghost use Rattle.lua_code.specs.Held.{program_view};
+ghost use Rattle.lua_lib.specs.Here.{is_here};
+ghost use Rattle.lua_machine.specs.Ready.{AreFit, IsServing};
+ghost use Rattle.lua_machine.specs.Serving.{IsCaller, IsCallerOf, is_memory, IsText, Failed, Served, ServedOr};
 
 use crate::engine::Engine;
-use crate::frame::Frame;
+use crate::frame::{Frame, Role};
 use crate::status::Status;
 use love_base::Memory;
-use lua_code::Proto;
+use lua_code::{Program, Proto};
 use lua_heap::{Native, Value};
 use lua_lib::Fault;
 use lua_lib::call::{Cause, LibFault, call};
@@ -25,7 +27,7 @@ fn is_memory(cause: &Cause) -> bool
 }
 
 // The line of the call for which a function waits.
-fn call_line(proto: &Proto, pc: usize) -> u32
+pub(crate) fn call_line(proto: &Proto, pc: usize) -> u32
     requires inside { pc - 1 < length proto.now.sites }
     ensures { result ≡ line_of proto.now pc }
 {
@@ -33,15 +35,8 @@ fn call_line(proto: &Proto, pc: usize) -> u32
 }
 
 impl<'a> Engine<'a> {
-    // The frame on top.
-    fn top(&self) -> Option<Frame>
-        ensures { IsTop result self.now.frames }
-    {
-        self.frames.last().copied()
-    }
-
     // The code of a function that waits.
-    fn waiting_code(&self, frame: Frame) -> &'a Proto
+    pub(crate) fn waiting_code(&self, frame: Frame) -> &'a Proto
         requires known { frame.func < length (protos_at self.now.chunks frame.chunk) }
         ensures { result.now ≡ proto_at self.now.chunks frame.chunk frame.func }
     {
@@ -49,16 +44,28 @@ impl<'a> Engine<'a> {
         &code.protos()[frame.func as usize]
     }
 
+    // The function of Lua that called the one that runs, where one did.
+    pub(crate) fn caller(&self) -> Option<Frame>
+        requires fit { AreFit self.now }
+        ensures { IsCaller result self.now }
+    {
+        let frame = self.top()?;
+        match frame.role {
+            Role::Waits(_) => Some(frame),
+            Role::Serves(_) => None,
+        }
+    }
+
     // The text of an error of a function, behind the place of its caller.
     fn placed_error(&mut self, native: Native, cause: &Cause, frame: Frame) -> Result<Value, Memory>
         requires fit { AreFit self.old }
-        requires waits { IsWaiting self.old.chunks (length self.old.values) (length self.old.cells)
-            frame }
+        requires caller { IsCallerOf frame self.old }
         ensures { IfOk result (λ value. IsText (placed_text (native_view native)
             (place_of self.old.chunks frame) cause.now) value self.old self.new) }
     {
+        let pc = frame.pc;
         let proto = self.waiting_code(frame);
-        let line = call_line(proto, frame.pc);
+        let line = call_line(proto, pc);
         self.buffer.clear();
         cause.put_placed(native, &mut self.buffer, proto.file().bytes(), line)?;
         let id = self.heap.intern(self.buffer.as_slice())?;
@@ -67,6 +74,7 @@ impl<'a> Engine<'a> {
 
     // The same, where no function of Lua called it.
     fn plain_error(&mut self, native: Native, cause: &Cause) -> Result<Value, Memory>
+        requires fit { AreFit self.old }
         ensures { IfOk result (λ value. IsText (cause_text (native_view native) cause.now) value
             self.old self.new) }
     {
@@ -90,7 +98,7 @@ impl<'a> Engine<'a> {
 
     // The value of an error of a function.
     #[inline(never)]
-    fn cause_error(&mut self, native: Native, cause: &Cause) -> Result<Value, Memory>
+    pub(crate) fn cause_error(&mut self, native: Native, cause: &Cause) -> Result<Value, Memory>
         requires fit { AreFit self.old }
         ensures { IfOk result (λ value. Failed native cause.now value self.old self.new) }
     {
@@ -100,22 +108,22 @@ impl<'a> Engine<'a> {
         if is_memory(cause) {
             return Err(Memory);
         }
-        match self.top() {
+        match self.caller() {
             Some(frame) => self.placed_error(native, cause, frame),
             None => self.plain_error(native, cause),
         }
     }
 
-    // Runs a function of the library that was called, where it is there.
-    pub(crate) fn serve(&mut self, native: Native) -> Result<Option<Status>, Memory>
-        requires fit { AreFit self.old }
-        ensures { IfOk result (λ status. ServedOr status native self.old self.new) }
+    // Runs a function that `lua_lib` has.
+    fn serve_library(&mut self, native: Native) -> Result<Option<Status>, Memory>
+        requires ready { IsServing self.old }
+        ensures { IfOk result (λ status. ServedOr (is_here (native_view native)) status native
+            self.old self.new) }
     {
         match call(self.alloc, &mut self.heap, native, self.args.as_slice()) {
             Ok(values) => {
                 self.args = values;
-                let status = self.deliver()?;
-                Ok(Some(status))
+                Ok(Some(Status::Gives))
             }
             Err(LibFault::Elsewhere) => Ok(None),
             Err(LibFault::Fails(cause)) => {
@@ -123,5 +131,25 @@ impl<'a> Engine<'a> {
                 Ok(Some(Status::Raises(value)))
             }
         }
+    }
+
+    // Runs a function of the library that was called.
+    pub(crate) fn serve(
+        &mut self,
+        program: &'a Program,
+        state: u32,
+        native: Native,
+    ) -> Result<Status, Memory>
+        requires ready { IsServing self.old }
+        ensures { IfOk result (λ status. Served (program_view program.now state) native status
+            self.old self.new) }
+    {
+        if let Some(status) = self.serve_library(native)? {
+            return Ok(status);
+        }
+        if let Some(status) = self.ask(program, state, native)? {
+            return Ok(status);
+        }
+        self.serve_own(program, state, native)
     }
 }

@@ -58,6 +58,7 @@ impl<'a> Engine<'a> {
             extras: Vec::new(alloc),
             args: Vec::new(alloc),
             frames: Vec::new(alloc),
+            modules: Vec::new(alloc),
             chunk: 0,
             func,
             proto,
@@ -65,8 +66,6 @@ impl<'a> Engine<'a> {
             base: 0,
             cell_base: 0,
             extra_base: 0,
-            output: Vec::new(alloc),
-            ends: Vec::new(alloc),
             ticks,
         })
     }

@@ -1,8 +1,10 @@
 //! What an instruction comes to.
 
+use crate::errand::Errand;
 use lua_heap::{Native, Value};
+use variant::Ask;
 
-// What an instruction came to.
+// What an instruction, or a function of the library, came to.
 #[derive(Debug, Drop)]
 pub(crate) enum Status {
     // The next instruction comes.
@@ -11,25 +13,39 @@ pub(crate) enum Status {
     NoTick,
     // A function of the library was called, on the arguments that were put together.
     Serves(Native),
-    // An error, which goes to the frames that wait.
+    // Results, which were put together as arguments are, go to the frames that wait.
+    Gives,
+    // An error goes to them.
     Raises(Value),
-    // The last function ended. Its results are in the tail.
+    // A line is printed, and then nothing is given.
+    Prints(Vec<u8>),
+    // An ask, and what its reply is for.
+    Asks(Ask, Errand),
+    // The results are those of the main function.
     Ends,
-    // It can't be done yet, and the engine is as it was.
-    NotYet,
+    // No frame keeps the error.
+    Fails(Value),
+}
+
+// Where the engine is once results and errors have gone to the frames that wait.
+#[derive(Debug, Drop)]
+pub(crate) enum Turn {
+    Goes,
+    Serves(Native),
+    Pauses(Pause),
 }
 
 // Where a run stands still.
 #[derive(Debug, Drop)]
 pub(crate) enum Pause {
-    // The main function ended. Its results are in the tail.
+    // The main function ended. Its results are put together as arguments are.
     Ended,
     // An error ended the run.
     Failed(Value),
     // There was no tick left.
     NoTick,
-    // The next instruction can't be done yet.
-    NotYet,
-    // The function of the library that was called isn't there yet.
-    Lacks(Native),
+    // A line is printed.
+    Prints(Vec<u8>),
+    // A reply is awaited.
+    Asks(Ask, Errand),
 }

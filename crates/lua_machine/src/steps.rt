@@ -2,13 +2,15 @@
 
 ghost use Rattle.std.specs.Prelude.{◌≡◌, IfOk};
 ghost use Rattle.lua_machine.specs.Ready.{IsReady, IsReadyFor};
-ghost use Rattle.lua_machine.specs.Does.{Takes};
+ghost use Rattle.lua_code.specs.Held.{program_view};
+ghost use Rattle.lua_code.specs.Sound.{IsSoundProgram};
+ghost use Rattle.lua_machine.specs.Does.{IsKept, Takes};
 ghost use Rattle.lua_machine.specs.Runs.{Steps, Runs};
 
 use crate::engine::Engine;
-use crate::status::{Pause, Status};
+use crate::status::{Pause, Status, Turn};
 use love_base::Memory;
-use lua_code::Instr;
+use lua_code::{Instr, Program};
 
 impl<'a> Engine<'a> {
     // The next instruction.
@@ -159,25 +161,30 @@ impl<'a> Engine<'a> {
         self.act(instr)
     }
 
-    // Goes on to where the machine of the definitions pauses.
-    pub(crate) fn run(&mut self) -> Result<Pause, Memory>
-        requires ready { IsReady self.old }
-        ensures { IfOk result (λ pause. Runs pause self.old self.new) }
+    // Goes on from a status to where the machine of the definitions pauses.
+    pub(crate) fn run(
+        &mut self,
+        program: &'a Program,
+        state: u32,
+        from: Status,
+    ) -> Result<Pause, Memory>
+        requires sound { IsSoundProgram (program_view program.now state) }
+        requires kept { IsKept from self.old }
+        ensures { IfOk result (λ pause. Runs (program_view program.now state) from pause self.old
+            self.new) }
     {
-        let mut status = Status::Goes;
+        let mut turn = self.land(from)?;
         loop {
-            status = match status {
-                Status::Goes => self.step()?,
-                Status::Serves(native) => {
-                    let Some(next) = self.serve(native)? else {
-                        return Ok(Pause::Lacks(native));
-                    };
-                    next
+            turn = match turn {
+                Turn::Goes => {
+                    let status = self.step()?;
+                    self.land(status)?
                 }
-                Status::NoTick => return Ok(Pause::NoTick),
-                Status::Raises(value) => return Ok(Pause::Failed(value)),
-                Status::Ends => return Ok(Pause::Ended),
-                Status::NotYet => return Ok(Pause::NotYet),
+                Turn::Serves(native) => {
+                    let status = self.serve(program, state, native)?;
+                    self.land(status)?
+                }
+                Turn::Pauses(pause) => return Ok(pause),
             };
         }
     }

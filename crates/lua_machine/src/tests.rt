@@ -1,3 +1,5 @@
+mod printing;
+
 use crate::engine::Engine;
 use crate::status::Pause;
 use love_base::{List, Memory, Text};

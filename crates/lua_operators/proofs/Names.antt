@@ -4,7 +4,7 @@ use Rattle.std.specs.Prelude.{unwrap_or, codes}
 use Rattle.lua_tree.specs.Tree.{Bytes}
 use Rattle.lua_heap.specs.Value.{text_at}
 use Rattle.lua_heap.specs.Heap.{HeapView, Extends}
-use Rattle.lua_operators.specs.declared.events.Event.TheVariants.{Add, Sub, Mul, Div, Mod, Pow, Minus, Concat, Equal, Less, UpTo, Call}
+use Rattle.lua_operators.specs.declared.events.Event.TheVariants.{Add, Sub, Mul, Div, Mod, Pow, Minus, Concat, Equal, Less, UpTo, Call, Text}
 use Rattle.lua_operators.specs.declared.events.Events.{Events}
 use Rattle.lua_operators.specs.Events.{AreEvents, id_of, event_text}
 
@@ -29,16 +29,17 @@ pub AreEvents-later : (h k : HeapView) → Extends h k → (e : Events) → AreE
 AreEvents-later h k more e are = λ event. later h k more (id_of e event) (event_text event) (are event)
 
 -- each name has its id
-pub are_events : (texts : List Bytes) (e : Events) → slice_get texts e.add ≡ Some (codes "__add") → slice_get texts e.sub ≡ Some (codes "__sub") → slice_get texts e.mul ≡ Some (codes "__mul") → slice_get texts e.div ≡ Some (codes "__div") → slice_get texts e.modulo ≡ Some (codes "__mod") → slice_get texts e.pow ≡ Some (codes "__pow") → slice_get texts e.minus ≡ Some (codes "__unm") → slice_get texts e.concat ≡ Some (codes "__concat") → slice_get texts e.equal ≡ Some (codes "__eq") → slice_get texts e.less ≡ Some (codes "__lt") → slice_get texts e.up_to ≡ Some (codes "__le") → slice_get texts e.call ≡ Some (codes "__call") → AreEvents texts e
-are_events texts e a b c d f g h i j k l m Add = a
-are_events texts e a b c d f g h i j k l m Sub = b
-are_events texts e a b c d f g h i j k l m Mul = c
-are_events texts e a b c d f g h i j k l m Div = d
-are_events texts e a b c d f g h i j k l m Mod = f
-are_events texts e a b c d f g h i j k l m Pow = g
-are_events texts e a b c d f g h i j k l m Minus = h
-are_events texts e a b c d f g h i j k l m Concat = i
-are_events texts e a b c d f g h i j k l m Equal = j
-are_events texts e a b c d f g h i j k l m Less = k
-are_events texts e a b c d f g h i j k l m UpTo = l
-are_events texts e a b c d f g h i j k l m Call = m
+pub are_events : (texts : List Bytes) (e : Events) → slice_get texts e.add ≡ Some (codes "__add") → slice_get texts e.sub ≡ Some (codes "__sub") → slice_get texts e.mul ≡ Some (codes "__mul") → slice_get texts e.div ≡ Some (codes "__div") → slice_get texts e.modulo ≡ Some (codes "__mod") → slice_get texts e.pow ≡ Some (codes "__pow") → slice_get texts e.minus ≡ Some (codes "__unm") → slice_get texts e.concat ≡ Some (codes "__concat") → slice_get texts e.equal ≡ Some (codes "__eq") → slice_get texts e.less ≡ Some (codes "__lt") → slice_get texts e.up_to ≡ Some (codes "__le") → slice_get texts e.call ≡ Some (codes "__call") → slice_get texts e.text ≡ Some (codes "__tostring") → AreEvents texts e
+are_events texts e a b c d f g h i j k l m n Add = a
+are_events texts e a b c d f g h i j k l m n Sub = b
+are_events texts e a b c d f g h i j k l m n Mul = c
+are_events texts e a b c d f g h i j k l m n Div = d
+are_events texts e a b c d f g h i j k l m n Mod = f
+are_events texts e a b c d f g h i j k l m n Pow = g
+are_events texts e a b c d f g h i j k l m n Minus = h
+are_events texts e a b c d f g h i j k l m n Concat = i
+are_events texts e a b c d f g h i j k l m n Equal = j
+are_events texts e a b c d f g h i j k l m n Less = k
+are_events texts e a b c d f g h i j k l m n UpTo = l
+are_events texts e a b c d f g h i j k l m n Call = m
+are_events texts e a b c d f g h i j k l m n Text = n

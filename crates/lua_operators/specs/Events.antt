@@ -2,7 +2,7 @@
 use Rattle.std.specs.Prelude.{◌≡◌, ℕ, List, Some, slice_get, codes}
 use Rattle.lua_tree.specs.Tree.{Bytes}
 use Rattle.lua_operators.specs.declared.events.Event.{Event}
-use Rattle.lua_operators.specs.declared.events.Event.TheVariants.{Add, Sub, Mul, Div, Mod, Pow, Minus, Concat, Equal, Less, UpTo, Call}
+use Rattle.lua_operators.specs.declared.events.Event.TheVariants.{Add, Sub, Mul, Div, Mod, Pow, Minus, Concat, Equal, Less, UpTo, Call, Text}
 use Rattle.lua_operators.specs.declared.events.Events.{Events}
 
 abbrev pub event_text : Event → Bytes
@@ -18,6 +18,7 @@ event_text Equal = codes "__eq"
 event_text Less = codes "__lt"
 event_text UpTo = codes "__le"
 event_text Call = codes "__call"
+event_text Text = codes "__tostring"
 
 abbrev pub id_of : Events → Event → ℕ
 id_of e Add = e.add
@@ -32,6 +33,7 @@ id_of e Equal = e.equal
 id_of e Less = e.less
 id_of e UpTo = e.up_to
 id_of e Call = e.call
+id_of e Text = e.text
 
 -- each id is that of its event's name
 abbrev pub AreEvents : List Bytes → Events → Type 0

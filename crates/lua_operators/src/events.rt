@@ -9,7 +9,7 @@ ghost use Rattle.lua_operators.specs.Events.{AreEvents, id_of, event_text};
 use love_base::Memory;
 use lua_heap::{Heap, StrId, Value};
 
-/// What a handler is for: an operator, or a call of a value that is no function.
+/// What a handler is for: an operator, a call of a value that is no function, or a value's text.
 #[derive(Clone, Copy, Debug, PartialEq, Eq)]
 pub enum Event {
     Add,
@@ -24,6 +24,7 @@ pub enum Event {
     Less,
     UpTo,
     Call,
+    Text,
 }
 
 /// The ids that the events' names have in one heap. They stay the names' ids while the heap grows.
@@ -41,6 +42,7 @@ pub struct Events {
     less: StrId,
     up_to: StrId,
     call: StrId,
+    text: StrId,
 }
 
 impl Events {
@@ -67,6 +69,7 @@ impl Events {
         let less = heap.intern(b"__lt")?;
         let up_to = heap.intern(b"__le")?;
         let call = heap.intern(b"__call")?;
+        let text = heap.intern(b"__tostring")?;
         Ok(Events {
             add,
             sub,
@@ -80,6 +83,7 @@ impl Events {
             less,
             up_to,
             call,
+            text,
         })
     }
 
@@ -101,6 +105,7 @@ impl Events {
             Event::Less => self.less,
             Event::UpTo => self.up_to,
             Event::Call => self.call,
+            Event::Text => self.text,
         }
     }
 

@@ -20,7 +20,7 @@ invariant_of-result c =
     let proto = c.index-protos-func.result in
     let n = c.size.result in
     let chunks : c.push.new.self.items ≡ chunk ∷ [] = c.in_ok-push.ensures.items ∙ ap (λ (cs : List Chunk). cs ++ chunk ∷ []) c.new-chunks.ensures.items in
-    subst IsEngine (sym (first_same heap events chunk func proto c.args.ticks n _ _ _ _ _ _ _ _ _ chunks c.in_ok-values.ensures c.new-4.ensures.items c.new-5.ensures.items c.new-6.ensures.items c.new-7.ensures.items c.new-8.ensures.items c.new-9.ensures.items c.new-10.ensures.items))
+    subst IsEngine (sym (first_same heap events chunk func proto c.args.ticks n _ _ _ _ _ _ _ _ chunks c.in_ok-values.ensures c.new-4.ensures.items c.new-5.ensures.items c.new-6.ensures.items c.new-7.ensures.items c.new-8.ensures.items c.new-9.ensures.items))
     (first_made heap events chunk n func proto c.args.ticks (AreEvents-later c.new-2.new.heap heap c.load.ensures.extends events c.in_ok-events.ensures.events) c.in_ok-chunk.ensures.made)
 
 pub returns-clause-ready : goal.returns-clause-ready
@@ -38,7 +38,7 @@ returns-clause-ready c =
     let is : proto ≡ proto_at (chunk ∷ []) 0 func =
     c.index-protos-func.is ∙ ap (λ (ps : List ProtoView). get_or ps func proto) (c.protos.ensures.protos ∙ sym code)
     ∙ read_is chunk.code.now func proto (subst (λ (ps : List ProtoView). func < length ps) (sym code) c.in-Some.ensures.known) in
-    subst IsReady (sym (first_same heap events chunk func proto c.args.ticks n _ _ _ _ _ _ _ _ _ chunks c.in_ok-values.ensures c.new-4.ensures.items c.new-5.ensures.items c.new-6.ensures.items c.new-7.ensures.items c.new-8.ensures.items c.new-9.ensures.items c.new-10.ensures.items))
+    subst IsReady (sym (first_same heap events chunk func proto c.args.ticks n _ _ _ _ _ _ _ _ chunks c.in_ok-values.ensures c.new-4.ensures.items c.new-5.ensures.items c.new-6.ensures.items c.new-7.ensures.items c.new-8.ensures.items c.new-9.ensures.items))
     (first_ready heap events chunk n func c.args.ticks proto c.in_ok-chunk.ensures.loaded none last is (sym c.size.ensures))
 
 pub returns-clause-begins : goal.returns-clause-begins
@@ -57,6 +57,6 @@ returns-clause-begins c =
     let is : proto ≡ proto_at (chunk ∷ []) 0 func =
     c.index-protos-func.is ∙ ap (λ (ps : List ProtoView). get_or ps func proto) (c.protos.ensures.protos ∙ sym code)
     ∙ read_is chunk.code.now func proto (subst (λ (ps : List ProtoView). func < length ps) (sym code) c.in-Some.ensures.known) in
-    subst (Begins c.args.code.now c.args.ticks) (sym (first_same heap events chunk func proto c.args.ticks n _ _ _ _ _ _ _ _ _ chunks c.in_ok-values.ensures c.new-4.ensures.items c.new-5.ensures.items c.new-6.ensures.items c.new-7.ensures.items c.new-8.ensures.items c.new-9.ensures.items c.new-10.ensures.items))
+    subst (Begins c.args.code.now c.args.ticks) (sym (first_same heap events chunk func proto c.args.ticks n _ _ _ _ _ _ _ _ chunks c.in_ok-values.ensures c.new-4.ensures.items c.new-5.ensures.items c.new-6.ensures.items c.new-7.ensures.items c.new-8.ensures.items c.new-9.ensures.items))
     (subst (λ (ps : List ProtoView). Begins ps c.args.ticks (first_engine heap events chunk (replicate n Nil) func proto c.args.ticks)) code
     (first_begins heap events chunk n func c.args.ticks proto c.in_ok-chunk.ensures.loaded none last is store))

@@ -10,4 +10,4 @@ returns c =
     let m = c.args.self.now in
     takes_operated c.operate.result (Binary c.args.op c.args.to c.args.left c.args.right) m c.operate.new.self c.args.to c.args.op c.at-left.result c.at-right.result (slot_of m c.args.left) (slot_of m c.args.right)
     (ap (value_view m.heap.texts) c.at-left.ensures.value)
-    (ap (value_view m.heap.texts) c.at-right.ensures.value) (λ asks. refl) (λ asked. asked) c.operate.ensures
+    (ap (value_view m.heap.texts) c.at-right.ensures.value) (λ past. refl) c.operate.ensures

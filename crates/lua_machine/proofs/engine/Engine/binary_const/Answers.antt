@@ -14,4 +14,4 @@ returns c =
     let m = c.args.self.now in
     takes_operated c.operate.result (BinaryConst c.args.op c.args.to c.args.left c.args.n) m c.operate.new.self c.args.to c.args.op c.at-left.result c.constant-right.result (slot_of m c.args.left) (constant_of m c.args.n)
     (ap (value_view m.heap.texts) c.at-left.ensures.value)
-    (ap (value_view m.heap.texts) c.constant-right.ensures.value ∙ constant_is m c.requires.ready.ready c.args.n) (λ asks. refl) (λ asked. asked) c.operate.ensures
+    (ap (value_view m.heap.texts) c.constant-right.ensures.value ∙ constant_is m c.requires.ready.ready c.args.n) (λ past. refl) c.operate.ensures

@@ -4,7 +4,9 @@ use Rattle.lua_machine.specs.View.{EngineView}
 use Rattle.lua_machine.specs.Made.{IsEngine}
 use Rattle.lua_machine.specs.Callees.{callee_at}
 use Rattle.lua_machine.specs.Errors.{Raised}
-use Rattle.lua_machine.specs.Entering.{HasEntered}
+use Rattle.lua_heap.specs.Heap.{function_at}
+use Rattle.lua_machine.specs.Frames.{pushed}
+use Rattle.lua_machine.specs.Entering.{free_cells, HasBegun}
 use Rattle.lua_machine.proofs.Called.{enters, enters_too_deep}
 use Rattle.lua_machine.proofs.engine.Engine.call_function.Goals as goal
 
@@ -32,4 +34,4 @@ returns c =
     enters m c.args.wants c.args.first c.args.count c.args.behind is c.requires.ready c.args.id new c.requires.function
     (subst (λ (y : EngineView). 0 < y.ticks) c.self.view_is left)
     (subst (λ (y : EngineView). length y.frames < 4096) c.self.view_is few)
-    (subst (λ (y : EngineView). HasEntered c.args.wants c.args.id c.args.first c.args.count c.args.behind (record y { ticks = y.ticks - 1 }) new) c.self.view_is c.in_ok-enter.ensures)
+    (subst (λ (y : EngineView). HasBegun (function_at y.heap c.args.id) c.args.first (free_cells y) c.args.count c.args.behind (pushed (record y { ticks = y.ticks - 1 }) c.args.wants) new) c.self.view_is c.in_ok-enter.ensures)

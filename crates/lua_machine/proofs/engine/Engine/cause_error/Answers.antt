@@ -4,17 +4,15 @@ use Rattle.lua_lib.specs.Texts.{cause_text, placed_text}
 use Rattle.lua_machine.specs.View.{place_of}
 use Rattle.lua_machine.specs.Serving.{IsText, Failed}
 use Rattle.lua_machine.proofs.Called.{each_came}
-use Rattle.lua_machine.proofs.Resuming.{top_waits}
 use Rattle.lua_machine.proofs.Failing.{fails_placed, fails_plain, owns}
 use Rattle.lua_machine.proofs.engine.Engine.cause_error.Goals as goal
 
 pub returns-in-Raises : goal.returns-in-Raises
-returns-in-Raises c = owns c.own_error.result c.args.native c.args.cause.now c.in-Raises.value c.args.self.now c.in-Raises.is c.own_error.ensures.value c.own_error.ensures.made
+returns-in-Raises c = owns c.own_error.result c.args.native c.args.cause.now c.in-Raises.value c.args.self.now c.in-Raises.is c.own_error.ensures.value c.own_error.ensures.made c.requires.fit
 
 pub placed_error-requires : goal.placed_error-requires
 placed_error-requires c =
-    let top = c.in-Some.ensures in
-    record { fit = c.requires.fit; waits = top_waits c.args.self.now c.requires.fit top.0 c.in-Some.frame top.1 }
+    record { fit = c.requires.fit; caller = c.in-Some.ensures }
 
 pub returns-in-Some : goal.returns-in-Some
 returns-in-Some c =

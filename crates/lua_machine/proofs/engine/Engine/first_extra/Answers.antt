@@ -11,4 +11,4 @@ returns c =
     let r = c.requires.ready in
     let slots : m.base + suc c.args.to ≤ length m.values = r.slots in
     subst (Takes (FirstExtra c.args.to) Goes m) (sym c.put.ensures)
-    (takes_put (FirstExtra c.args.to) m r c.args.to c.extra-value.result _ r.leads (omega (arith, slots)) (sym c.extra-value.ensures.value) (λ asks. refl))
+    (takes_put (FirstExtra c.args.to) m r c.args.to c.extra-value.result _ r.leads (omega (arith, slots)) (sym c.extra-value.ensures.value) (λ past. refl))

@@ -11,4 +11,4 @@ returns c =
     let r = c.requires.ready in
     let slots : m.base + suc c.args.to ≤ length m.values = r.slots in
     subst (Takes (GetCell c.args.to c.args.cell) Goes m) (sym c.put.ensures)
-    (takes_put (GetCell c.args.to c.args.cell) m r c.args.to c.held-value.result _ r.leads (omega (arith, slots)) (sym c.held-value.ensures.value) (λ asks. refl))
+    (takes_put (GetCell c.args.to c.args.cell) m r c.args.to c.held-value.result _ r.leads (omega (arith, slots)) (sym c.held-value.ensures.value) (λ past. refl))

@@ -10,4 +10,4 @@ returns c =
     let m = c.args.self.now in
     takes_read c.settle.result (GetField c.args.to c.args.base c.args.key) m c.settle.new.self c.args.to _ c.self.view_is c.field-doing.result c.at-base.result c.at-key.result (slot_of m c.args.base) (slot_of m c.args.key) c.field-doing.ensures.doing
     (ap (value_view m.heap.texts) c.at-base.ensures.value)
-    (ap (value_view m.heap.texts) c.at-key.ensures.value) (λ asks. refl) (λ asked. asked) c.settle.ensures
+    (ap (value_view m.heap.texts) c.at-key.ensures.value) (λ past. refl) c.settle.ensures

@@ -17,4 +17,4 @@ returns c =
     let m = c.args.self.now in
     takes_read c.settle.result (GetGlobal c.args.to c.args.name) m c.settle.new.self c.args.to _ c.self.view_is c.field-doing.result (Table c.globals.result) c.constant-key.result globals (constant_of m c.args.name) c.field-doing.ensures.doing
     (ap (λ n. meant.table n) c.globals.ensures.place)
-    (ap (value_view m.heap.texts) c.constant-key.ensures.value ∙ constant_is m c.requires.ready.ready c.args.name) (λ asks. refl) (λ asked. asked) c.settle.ensures
+    (ap (value_view m.heap.texts) c.constant-key.ensures.value ∙ constant_is m c.requires.ready.ready c.args.name) (λ past. refl) c.settle.ensures

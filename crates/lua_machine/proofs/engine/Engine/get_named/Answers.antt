@@ -14,4 +14,4 @@ returns c =
     let m = c.args.self.now in
     takes_read c.settle.result (GetNamed c.args.to c.args.base c.args.name) m c.settle.new.self c.args.to _ c.self.view_is c.field-doing.result c.at-base.result c.constant-key.result (slot_of m c.args.base) (constant_of m c.args.name) c.field-doing.ensures.doing
     (ap (value_view m.heap.texts) c.at-base.ensures.value)
-    (ap (value_view m.heap.texts) c.constant-key.ensures.value ∙ constant_is m c.requires.ready.ready c.args.name) (λ asks. refl) (λ asked. asked) c.settle.ensures
+    (ap (value_view m.heap.texts) c.constant-key.ensures.value ∙ constant_is m c.requires.ready.ready c.args.name) (λ past. refl) c.settle.ensures

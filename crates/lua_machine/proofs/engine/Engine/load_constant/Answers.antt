@@ -17,4 +17,4 @@ returns c =
     let slots : m.base + suc c.args.to ≤ length m.values = r.slots in
     subst (Takes (Const c.args.to c.args.n) Goes m) (sym c.put.ensures)
     (takes_put (Const c.args.to c.args.n) m r c.args.to c.constant-value.result _ r.leads (omega (arith, slots))
-    (sym (constant_is m r.ready c.args.n) ∙ ap (value_view m.heap.texts) (sym c.constant-value.ensures.value)) (λ asks. refl))
+    (sym (constant_is m r.ready c.args.n) ∙ ap (value_view m.heap.texts) (sym c.constant-value.ensures.value)) (λ past. refl))

@@ -22,5 +22,5 @@ returns c =
     c.in_ok-id.ensures.id
     ∙ ap (λ (b : Bytes). Some b) (c.as_slice.ensures.value ∙ c.in_ok-put_placed.ensures
     ∙ ap (λ (b : Bytes). b ++ placed_text f (record { file = c.bytes.result.now; line = c.call_line-line.result }) c.args.cause.now) c.clear.ensures.items
-    ∙ ap (λ (p : Place). placed_text f p c.args.cause.now) (place_is m.chunks c.args.frame c.bytes.result.now c.call_line-line.result c.requires.waits.placed.known file line)) in
-    text_of _ m c.self.view_is c.self.invariant c.intern.new.self c.in_ok-id.id _ there c.in_ok-id.ensures.made c.intern.ensures.extends c.intern.ensures.store c.intern.ensures.functions
+    ∙ ap (λ (p : Place). placed_text f p c.args.cause.now) (place_is m.chunks c.args.frame c.bytes.result.now c.call_line-line.result c.requires.caller.known file line)) in
+    text_of _ m c.self.view_is c.self.invariant c.requires.fit c.intern.new.self c.in_ok-id.id _ there c.in_ok-id.ensures.made c.intern.ensures.extends c.intern.ensures.store c.intern.ensures.functions

@@ -15,4 +15,4 @@ returns c =
     c.in_ok-id.ensures.id
     ∙ ap (λ (b : Bytes). Some b) (c.as_slice.ensures.value ∙ c.in_ok-put_text.ensures
     ∙ ap (λ (b : Bytes). b ++ cause_text (native_view c.args.native) c.args.cause.now) c.clear.ensures.items) in
-    text_of _ c.args.self.now c.self.view_is c.self.invariant c.intern.new.self c.in_ok-id.id _ there c.in_ok-id.ensures.made c.intern.ensures.extends c.intern.ensures.store c.intern.ensures.functions
+    text_of _ c.args.self.now c.self.view_is c.self.invariant c.requires.fit c.intern.new.self c.in_ok-id.id _ there c.in_ok-id.ensures.made c.intern.ensures.extends c.intern.ensures.store c.intern.ensures.functions

@@ -1,76 +1,52 @@
-use Rattle.std.proofs.Common.{◌<◌, Option, sym, subst}
-use Rattle.lua_machine.specs.declared.status.Status.{Status}
-use Rattle.lua_machine.specs.Serving.{ServedOr}
-use Rattle.lua_machine.proofs.Running.{Running, left_at, running_first, running_next, smaller, served_next, served_smaller, lacks, runs_out, runs_on_end, runs_failed, runs_not_yet}
+use Rattle.std.proofs.Common.{◌<◌, sym, subst}
+use Rattle.lua_code.specs.Held.{program_view}
+use Rattle.lua_machine.specs.declared.status.Turn.{Turn}
+use Rattle.lua_machine.proofs.Running.{Running, left_at, running_first, running_next, smaller, served_next, served_smaller, runs_to}
 use Rattle.lua_machine.proofs.engine.Engine.run.Goals as goal
 
-pub loop-status-init : goal.loop-status-init
-loop-status-init c = running_first c.args.self.now c.requires.ready
+pub loop-turn-init : goal.loop-turn-init
+loop-turn-init c = running_first (program_view c.args.program.now c.args.state) c.args.from c.args.self.now c.land.new.self c.in_ok-turn.turn c.in_ok-turn.ensures
 
-pub loop-status-smaller-in_ok-status-in-Goes : goal.loop-status-smaller-in_ok-status-in-Goes
-loop-status-smaller-in_ok-status-in-Goes c =
-    let old = c.args.self.now in
-    let now = c.loop-status.self in
-    let new = c.step.new.self in
-    let next = c.in_ok-status-in-Goes.status in
-    let r = subst (λ (s : Status). Running old s now) c.in-Goes.is c.loop-status.invariant in
-    subst (λ (s : Status). left_at next new < left_at s now) (sym c.in-Goes.is) (smaller old now new r next c.in_ok-status-in-Goes.ensures)
+pub returns-in-Pauses : goal.returns-in-Pauses
+returns-in-Pauses c =
+    let program = program_view c.args.program.now c.args.state in
+    runs_to program c.args.from c.args.self.now c.loop-turn.self c.in-Pauses.pause (subst (λ (t : Turn). Running program c.args.from c.args.self.now t c.loop-turn.self) c.in-Pauses.is c.loop-turn.invariant)
 
-pub loop-status-preserved-in_ok-status-in-Goes : goal.loop-status-preserved-in_ok-status-in-Goes
-loop-status-preserved-in_ok-status-in-Goes c =
-    let old = c.args.self.now in
-    let now = c.loop-status.self in
-    let r = subst (λ (s : Status). Running old s now) c.in-Goes.is c.loop-status.invariant in
-    running_next old now c.step.new.self r c.in_ok-status-in-Goes.status c.in_ok-status-in-Goes.ensures
+pub land-requires-in-Goes : goal.land-requires-in-Goes
+land-requires-in-Goes c = record { kept = (c.in_ok-status-in-Goes.ensures (program_view c.args.program.now c.args.state)).kept }
 
-pub loop-status-smaller : goal.loop-status-smaller
-loop-status-smaller c =
-    let old = c.args.self.now in
-    let now = c.loop-status.self in
-    let new = c.serve.new.self in
+pub loop-turn-smaller-in_ok-turn-in-Goes : goal.loop-turn-smaller-in_ok-turn-in-Goes
+loop-turn-smaller-in_ok-turn-in-Goes c =
+    let program = program_view c.args.program.now c.args.state in
+    let now = c.loop-turn.self in
+    let new = c.land-in-Goes.new.self in
+    let next = c.in_ok-turn-in-Goes.turn in
+    let r = subst (λ (t : Turn). Running program c.args.from c.args.self.now t now) c.in-Goes.is c.loop-turn.invariant in
+    subst (λ (t : Turn). left_at next new < left_at t now) (sym c.in-Goes.is)
+    (smaller program c.requires.sound c.args.from c.args.self.now now c.step.new.self new next r c.in_ok-status-in-Goes.status c.in_ok-status-in-Goes.ensures c.in_ok-turn-in-Goes.ensures)
+
+pub loop-turn-preserved-in_ok-turn-in-Goes : goal.loop-turn-preserved-in_ok-turn-in-Goes
+loop-turn-preserved-in_ok-turn-in-Goes c =
+    let program = program_view c.args.program.now c.args.state in
+    let now = c.loop-turn.self in
+    let r = subst (λ (t : Turn). Running program c.args.from c.args.self.now t now) c.in-Goes.is c.loop-turn.invariant in
+    running_next program c.requires.sound c.args.from c.args.self.now now c.step.new.self c.land-in-Goes.new.self c.in_ok-turn-in-Goes.turn r c.in_ok-status-in-Goes.status c.in_ok-status-in-Goes.ensures c.in_ok-turn-in-Goes.ensures
+
+pub loop-turn-smaller : goal.loop-turn-smaller
+loop-turn-smaller c =
+    let program = program_view c.args.program.now c.args.state in
+    let now = c.loop-turn.self in
+    let new = c.land-in-Serves.new.self in
+    let next = c.in_ok-turn-in-Serves.turn in
     let f = c.in-Serves.native in
-    let r = subst (λ (s : Status). Running old s now) c.in-Serves.is c.loop-status.invariant in
-    let served = subst (λ (o : Option Status). ServedOr o f now new) c.in-Some.is c.in_ok-next-in-Serves.ensures in
-    subst (λ (s : Status). left_at c.in-Some.next new < left_at s now) (sym c.in-Serves.is) (served_smaller old now new f r c.in-Some.next served)
+    let r = subst (λ (t : Turn). Running program c.args.from c.args.self.now t now) c.in-Serves.is c.loop-turn.invariant in
+    subst (λ (t : Turn). left_at next new < left_at t now) (sym c.in-Serves.is)
+    (served_smaller program c.requires.sound c.args.from c.args.self.now now c.serve.new.self new next f r c.in_ok-status-in-Serves.status c.in_ok-status-in-Serves.ensures c.in_ok-turn-in-Serves.ensures)
 
-pub loop-status-preserved : goal.loop-status-preserved
-loop-status-preserved c =
-    let old = c.args.self.now in
-    let now = c.loop-status.self in
-    let new = c.serve.new.self in
+pub loop-turn-preserved : goal.loop-turn-preserved
+loop-turn-preserved c =
+    let program = program_view c.args.program.now c.args.state in
+    let now = c.loop-turn.self in
     let f = c.in-Serves.native in
-    let r = subst (λ (s : Status). Running old s now) c.in-Serves.is c.loop-status.invariant in
-    let served = subst (λ (o : Option Status). ServedOr o f now new) c.in-Some.is c.in_ok-next-in-Serves.ensures in
-    served_next old now new f r c.in-Some.next served
-
-pub returns-in_default : goal.returns-in_default
-returns-in_default c =
-    let old = c.args.self.now in
-    let now = c.loop-status.self in
-    let f = c.in-Serves.native in
-    let r = subst (λ (s : Status). Running old s now) c.in-Serves.is c.loop-status.invariant in
-    lacks old now c.serve.new.self f r c.in_ok-next-in-Serves.field-0 c.in_ok-next-in-Serves.ensures c.in_default.not-Some
-
-pub returns-in-NoTick : goal.returns-in-NoTick
-returns-in-NoTick c =
-    let old = c.args.self.now in
-    let now = c.loop-status.self in
-    runs_out old now (subst (λ (s : Status). Running old s now) c.in-NoTick.is c.loop-status.invariant)
-
-pub returns-in-Raises : goal.returns-in-Raises
-returns-in-Raises c =
-    let old = c.args.self.now in
-    let now = c.loop-status.self in
-    runs_failed old now c.in-Raises.value (subst (λ (s : Status). Running old s now) c.in-Raises.is c.loop-status.invariant)
-
-pub returns-in-Ends : goal.returns-in-Ends
-returns-in-Ends c =
-    let old = c.args.self.now in
-    let now = c.loop-status.self in
-    runs_on_end old now (subst (λ (s : Status). Running old s now) c.in-Ends.is c.loop-status.invariant)
-
-pub returns-in-NotYet : goal.returns-in-NotYet
-returns-in-NotYet c =
-    let old = c.args.self.now in
-    let now = c.loop-status.self in
-    runs_not_yet old now (subst (λ (s : Status). Running old s now) c.in-NotYet.is c.loop-status.invariant)
+    let r = subst (λ (t : Turn). Running program c.args.from c.args.self.now t now) c.in-Serves.is c.loop-turn.invariant in
+    served_next program c.requires.sound c.args.from c.args.self.now now c.serve.new.self c.land-in-Serves.new.self c.in_ok-turn-in-Serves.turn f r c.in_ok-status-in-Serves.status c.in_ok-status-in-Serves.ensures c.in_ok-turn-in-Serves.ensures

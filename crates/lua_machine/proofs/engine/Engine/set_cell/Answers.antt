@@ -15,4 +15,4 @@ pub returns : goal.returns
 returns c =
     let m = c.args.self.now in
     takes_stored (SetCell c.args.cell c.args.from) m c.requires.ready c.store_cell.new.self (cell_change c.args.cell (value_view m.heap.texts c.at-value.result) m) c.store_cell.ensures c.requires.ready.leads
-    (λ asks. ap (λ (w : Value). on (config_in m.heap.texts m.heap.functions (set_cell (store_of m.heap) (cell_at m.cells (m.cell_base + c.args.cell)) (value_view m.heap.texts w)) asks (at_pc m (m.pc + 1)))) (sym c.at-value.ensures.value))
+    (λ past. ap (λ (w : Value). on (config_in m.heap.texts m.heap.functions (set_cell (store_of m.heap) (cell_at m.cells (m.cell_base + c.args.cell)) (value_view m.heap.texts w)) past (at_pc m (m.pc + 1)))) (sym c.at-value.ensures.value))

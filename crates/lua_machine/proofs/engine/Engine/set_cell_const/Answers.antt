@@ -19,5 +19,5 @@ pub returns : goal.returns
 returns c =
     let m = c.args.self.now in
     takes_stored (SetCellConst c.args.cell c.args.n) m c.requires.ready c.store_cell.new.self (cell_change c.args.cell (value_view m.heap.texts c.constant-value.result) m) c.store_cell.ensures c.requires.ready.leads
-    (λ asks. ap (λ (w : meant.Value). on (config_in m.heap.texts m.heap.functions (set_cell (store_of m.heap) (cell_at m.cells (m.cell_base + c.args.cell)) w) asks (at_pc m (m.pc + 1))))
+    (λ past. ap (λ (w : meant.Value). on (config_in m.heap.texts m.heap.functions (set_cell (store_of m.heap) (cell_at m.cells (m.cell_base + c.args.cell)) w) past (at_pc m (m.pc + 1))))
     (sym (constant_is m c.requires.ready.ready c.args.n) ∙ ap (value_view m.heap.texts) (sym c.constant-value.ensures.value)))

@@ -13,4 +13,4 @@ returns c =
     (ap (value_view m.heap.texts) c.at-base.ensures.value)
     (ap (value_view m.heap.texts) c.at-key.ensures.value)
     (ap (value_view m.heap.texts) c.at-value.ensures.value)
-    (λ asks. refl) (λ yet. yet) c.set.ensures
+    (λ past. refl) c.set.ensures

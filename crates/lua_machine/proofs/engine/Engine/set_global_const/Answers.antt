@@ -23,4 +23,4 @@ returns c =
     (ap (λ n. meant.table n) c.globals.ensures.place)
     (ap (value_view m.heap.texts) c.constant-key.ensures.value ∙ constant_is m r.ready c.args.name)
     (ap (value_view m.heap.texts) c.constant-value.ensures.value ∙ constant_is m r.ready c.args.n)
-    (λ asks. refl) (λ yet. yet) c.set.ensures
+    (λ past. refl) c.set.ensures

@@ -15,4 +15,4 @@ returns c =
     let m = c.args.self.now in
     let r = c.requires.ready in
     takes_stored (SetItem c.args.table c.args.number c.args.from) m r c.store_item.new.self (items_change c.args.table c.args.number (value_view m.heap.texts c.at-value.result ∷ []) m) c.in_ok-store_item.ensures r.leads
-    (λ asks. ap (λ (w : meant.Value). on (config_in m.heap.texts m.heap.functions (items_change c.args.table c.args.number (w ∷ []) m (store_of m.heap)) asks (at_pc m (m.pc + 1)))) (ap (value_view m.heap.texts) (sym c.at-value.ensures.value)))
+    (λ past. ap (λ (w : meant.Value). on (config_in m.heap.texts m.heap.functions (items_change c.args.table c.args.number (w ∷ []) m (store_of m.heap)) past (at_pc m (m.pc + 1)))) (ap (value_view m.heap.texts) (sym c.at-value.ensures.value)))

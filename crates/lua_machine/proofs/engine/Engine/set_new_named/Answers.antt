@@ -19,8 +19,7 @@ returns c =
     let r = c.requires.ready in
     let key_is = sym (constant_is m r.ready c.args.name) ∙ ap (value_view m.heap.texts) (sym c.constant-key.ensures.value) in
     let value_is = ap (value_view m.heap.texts) (sym c.at-value.ensures.value) in
-    takes_each (SetNewNamed c.args.table c.args.name c.args.from) m c.put_field.new.self (new_field_step c.args.table c.constant-key.result c.at-value.result m) ⊥ c.put_field.result c.put_field.ensures r r.leads
-    (λ asks.
-    ap (λ (w : meant.Value). act.sets_new (run_of m) (frames_of m) (registers_of m) (state_of asks m) (site_at m.proto m.pc) (slots_view m.heap.texts m.values (m.base + c.args.table)) w (slots_view m.heap.texts m.values (m.base + c.args.from))) key_is
-    ∙ ap (λ (w : meant.Value). act.sets_new (run_of m) (frames_of m) (registers_of m) (state_of asks m) (site_at m.proto m.pc) (slots_view m.heap.texts m.values (m.base + c.args.table)) (value_view m.heap.texts c.constant-key.result) w) value_is)
-    (λ none. none)
+    takes_each (SetNewNamed c.args.table c.args.name c.args.from) m c.put_field.new.self (new_field_step c.args.table c.constant-key.result c.at-value.result m) c.put_field.result c.put_field.ensures r r.leads
+    (λ past.
+    ap (λ (w : meant.Value). act.sets_new (run_of m) (frames_of m) (registers_of m) (state_of past m) (site_at m.proto m.pc) (slots_view m.heap.texts m.values (m.base + c.args.table)) w (slots_view m.heap.texts m.values (m.base + c.args.from))) key_is
+    ∙ ap (λ (w : meant.Value). act.sets_new (run_of m) (frames_of m) (registers_of m) (state_of past m) (site_at m.proto m.pc) (slots_view m.heap.texts m.values (m.base + c.args.table)) (value_view m.heap.texts c.constant-key.result) w) value_is)

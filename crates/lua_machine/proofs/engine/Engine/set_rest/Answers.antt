@@ -9,4 +9,4 @@ use Rattle.lua_machine.proofs.engine.Engine.set_rest.Goals as goal
 pub returns : goal.returns
 returns c =
     let m = c.args.self.now in
-    takes_stored (SetRest c.args.table c.args.number) m c.requires.ready c.store_rest.new.self (items_change c.args.table c.args.number (map (value_view m.heap.texts) m.tail) m) c.in_ok-store_rest.ensures c.requires.ready.leads (λ asks. refl)
+    takes_stored (SetRest c.args.table c.args.number) m c.requires.ready c.store_rest.new.self (items_change c.args.table c.args.number (map (value_view m.heap.texts) m.tail) m) c.in_ok-store_rest.ensures c.requires.ready.leads (λ past. refl)

@@ -13,4 +13,4 @@ returns c =
     let r = c.requires.ready in
     let slots : m.base + max (suc c.args.to) (suc c.args.from) ≤ length m.values = r.slots in
     subst (Takes (Move c.args.to c.args.from) Goes m) (sym c.put.ensures)
-    (takes_put (Move c.args.to c.args.from) m r c.args.to c.at-value.result _ r.leads (omega (arith, slots)) (ap (value_view m.heap.texts) (sym c.at-value.ensures.value)) (λ asks. refl))
+    (takes_put (Move c.args.to c.args.from) m r c.args.to c.at-value.result _ r.leads (omega (arith, slots)) (ap (value_view m.heap.texts) (sym c.at-value.ensures.value)) (λ past. refl))

@@ -10,4 +10,4 @@ pub returns : goal.returns
 returns c =
     let m = c.args.self.now in
     takes_unary c.settle.result (Unary c.args.op c.args.to c.args.from) m c.settle.new.self c.args.to _ c.self.view_is (unary_view c.args.op) c.in_ok-doing.doing c.at-value.result (slot_of m c.args.from) c.in_ok-doing.ensures.doing
-    (ap (value_view m.heap.texts) c.at-value.ensures.value) (λ asks. refl) (λ asked. asked) c.settle.ensures
+    (ap (value_view m.heap.texts) c.at-value.ensures.value) (λ past. refl) c.settle.ensures
