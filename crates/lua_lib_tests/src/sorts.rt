@@ -69,7 +69,8 @@ fn texts(rt: HostRuntime) -> Result<(), Fail> {
     let a = text(&mut heap, b"a");
     let large = text(&mut heap, b"B");
     let last = text(&mut heap, b"\xff");
-    let items = [b, empty, ab, a, large, last, ab];
+    let same = text(&mut heap, b"ab");
+    let items = [b, empty, ab, a, large, last, same];
     assert!(rt; sorts_to(rt.alloc(), &mut heap, &items, b" B a ab ab b \xff"));
     Ok(())
 }
