@@ -1,9 +1,9 @@
 mod printing;
 
 use crate::engine::Engine;
-use crate::status::Pause;
+use crate::status::{Pause, Status};
 use love_base::{List, Memory, Text};
-use lua_code::{Code, Constant, Instr, Proto, Site};
+use lua_code::{Code, Constant, Instr, Program, Proto, Site};
 use lua_heap::Value;
 use lua_value::Num;
 use std::alloc::Global;
@@ -63,12 +63,15 @@ fn a_loop_ends_or_runs_out_of_ticks(rt: HostRuntime) -> Result<(), Memory> {
         assert!(rt; false);
         return Ok(());
     };
+    let program = Program {
+        files: List::new(alloc),
+    };
     let mut engine = Engine::begin(alloc, &code, 3)?;
-    let pause = engine.run()?;
+    let pause = engine.run(&program, 1, Status::Goes)?;
     assert!(rt; matches!(pause, Pause::Ended));
-    assert!(rt; engine.tail.len() == 1);
+    assert!(rt; engine.args.len() == 1);
     let mut short = Engine::begin(alloc, &code, 2)?;
-    let pause = short.run()?;
+    let pause = short.run(&program, 1, Status::Goes)?;
     assert!(rt; matches!(pause, Pause::NoTick));
     Ok(())
 }
@@ -114,11 +117,14 @@ fn a_numeric_loop_takes_a_tick_for_each_turn(rt: HostRuntime) -> Result<(), Memo
         assert!(rt; false);
         return Ok(());
     };
+    let program = Program {
+        files: List::new(alloc),
+    };
     let mut engine = Engine::begin(alloc, &code, 3)?;
-    let pause = engine.run()?;
+    let pause = engine.run(&program, 1, Status::Goes)?;
     assert!(rt; matches!(pause, Pause::Ended));
     assert!(rt; engine.ticks == 0);
-    assert!(rt; engine.tail.len() == 1);
-    assert!(rt; is_number(engine.tail[0], 1));
+    assert!(rt; engine.args.len() == 1);
+    assert!(rt; is_number(engine.args[0], 1));
     Ok(())
 }
