@@ -1,5 +1,3 @@
-mod printing;
-
 use crate::engine::Engine;
 use crate::status::{Pause, Status};
 use love_base::{List, Memory, Text};
