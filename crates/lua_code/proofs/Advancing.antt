@@ -30,7 +30,7 @@ use Rattle.lua_code.specs.Act as act
 use Rattle.lua_code.specs.Act.{next, after, exec}
 use Rattle.lua_code.specs.Follows.{program_of, end_of}
 use Rattle.lua_code.specs.Talks.{fed, Reached}
-use Rattle.lua_code.specs.Growing.{Past, past_of, last_or, IsWhole, Grows, EndHas, StepHas, GrowsTo, IsBeginning, AllGrow}
+use Rattle.lua_code.specs.Growing.{Past, past_of, last_or, IsWhole, Grows, EndHas, GrowsTo, IsBeginning, AllGrow}
 use Rattle.lua_code.proofs.Talking.{means}
 use Rattle.lua_code.proofs.Growing.{grows_self, grows_on, asked_grows, left_of, still, active_weight, weight, Later, Onward, less, either, ticking_on, calls_on, finish_on, serves_on, attends}
 
@@ -207,7 +207,7 @@ end_further p q (no_ticks st) a b = grows_on p q _ a b
 end_further p q (needed ask st) a b = grows_on p q _ a b
 end_further p q stuck a b = tt
 
-further : (p q : Past) (x : Step) → Grows p q → GrowsTo q x → GrowsTo p x
+pub further : (p q : Past) (x : Step) → Grows p q → GrowsTo q x → GrowsTo p x
 further p q (on c) a b = grows_on p q _ a b
 further p q (stop e) a b = end_further p q e a b
 further p q (asks question pending) a b = grows_on p q _ a b

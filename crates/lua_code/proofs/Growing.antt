@@ -47,7 +47,7 @@ last_added : (none : ℕ) (ns : List ℕ) (n : ℕ) → last_or none (ns ++ n �
 last_added none [] n = refl
 last_added none (m ∷ ns) n = last_added m ns n
 
-line_grows : (line : List ℕ) (st : State) → Grows (past_of st) (past_of (add_line line st))
+pub line_grows : (line : List ℕ) (st : State) → Grows (past_of st) (past_of (add_line line st))
 line_grows line st = record {
   asks = same_prefix st.asks;
   output = longer_prefix st.output line;

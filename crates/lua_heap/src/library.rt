@@ -1,8 +1,8 @@
 //! The library: the tables that each state has from its start.
 
-ghost use Rattle.std.specs.Prelude.{◌≡◌, ◌<◌, map, replicate, IfOk, OnOk, []};
+ghost use Rattle.std.specs.Prelude.{◌≡◌, ◌<◌, map, replicate, codes, IfOk, OnOk, []};
 ghost use Rattle.lua_meaning.specs.Value.{str};
-ghost use Rattle.lua_meaning.specs.Store.{raw_set};
+ghost use Rattle.lua_meaning.specs.Store.{raw_set, love_place, love_event_place};
 ghost use Rattle.lua_meaning.specs.Run.{first_store};
 ghost use Rattle.lua_heap.specs.Native.{native_view};
 ghost use Rattle.lua_heap.specs.Value.{value_view};
@@ -123,7 +123,7 @@ const EVENT_FUNCTIONS: [Native; 5] = [
 
 impl Heap {
     /// A heap that holds the library: the tables and functions that a state other than 0 has at its
-    /// start. In state 0 the table `love` has `event` too, once the caller has set it.
+    /// start. In state 0 the table `love` has `event` too: [`Heap::for_state`].
     ///
     /// # Errors
     ///
@@ -137,6 +137,32 @@ impl Heap {
         heap.fill_library()?;
         heap.fill_modules()?;
         Ok(heap)
+    }
+
+    /// A heap that holds the library as the state of this number has it at its start.
+    ///
+    /// # Errors
+    ///
+    /// [`Memory`] where there is no room for it.
+    pub fn for_state(alloc: Global, state: u32) -> Result<Heap, Memory>
+        ensures store { IfOk result (λ heap. store_of heap ≡ first_store state) }
+        ensures functions { IfOk result (λ heap. heap.functions ≡ []) }
+    {
+        if state != 0 {
+            return Heap::new(alloc);
+        }
+        let mut heap = Heap::new(alloc)?;
+        heap.add_events()?;
+        Ok(heap)
+    }
+
+    // `love.event` becomes a field of `love`.
+    fn add_events(&mut self) -> Result<(), Memory>
+        ensures store { OnOk result (store_of self.new
+            ≡ with_table love_place (codes "event") love_event_place (store_of self.old)) }
+        ensures functions { OnOk result (self.new.functions ≡ self.old.functions) }
+    {
+        self.put_table(LOVE, b"event", LOVE_EVENT)
     }
 
     // A heap whose first tables are empty.

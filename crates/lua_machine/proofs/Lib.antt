@@ -39,3 +39,6 @@ pub mod Lined
 pub mod Passing
 pub mod Printed
 pub mod Kept
+pub mod Sessions
+pub mod Saying
+pub mod Sound

@@ -1,5 +1,5 @@
 -- The beginning of a chunk.
-use Rattle.std.proofs.Common.{◌≡◌, ℕ, zero, suc, ◌-◌, ◌<◌, List, [], ◌∷◌, length, Bool, true, false, replicate, refl, sym, ap, ◌∙◌, subst, slice_get, get_or, arith}
+use Rattle.std.proofs.Common.{◌≡◌, ℕ, zero, suc, ◌-◌, ◌<◌, List, [], ◌∷◌, length, Bool, true, false, replicate, refl, sym, ap, ◌∙◌, subst, slice_get, get_or, take, arith}
 use Rattle.std.specs.Prelude.{◌==◌, if◌then◌else◌, map, unwrap_or}
 use Rattle.std.specs.List.{AllByRecursion}
 use Rattle.lua_tree.specs.Tree.{Bytes}
@@ -10,23 +10,26 @@ use Rattle.lua_heap.specs.declared.entries.Function.{Function}
 use Rattle.lua_heap.specs.declared.value.Value.{Value}
 use Rattle.lua_heap.specs.declared.value.Value.TheVariants.{Nil}
 use Rattle.lua_heap.specs.Value.{value_view}
-use Rattle.lua_heap.specs.Heap.{HeapView, store_of}
+use Rattle.lua_heap.specs.Heap.{HeapView, store_of, Extends}
 use Rattle.lua_code.specs.Instr as i
 use Rattle.lua_code.specs.View.{ProtoView, code_at}
 use Rattle.lua_code.specs.Valid.{IsSound, captures_of}
 use Rattle.lua_code.specs.State.{put, put_values, Made, Config, lua}
 use Rattle.lua_code.specs.Frames.{runs, extra_of, begun}
 use Rattle.lua_code.specs.Follows.{no_registers}
+use Rattle.lua_code.specs.Trees.{chunk_of}
+use Rattle.lua_machine.specs.Past.{no_past}
 use Rattle.lua_operators.specs.declared.events.Events.{Events}
 use Rattle.lua_operators.specs.Events.{AreEvents}
 use Rattle.lua_machine.specs.declared.frame.Frame.{Frame}
 use Rattle.lua_machine.specs.declared.chunk.Chunk.{Chunk}
 use Rattle.lua_machine.specs.declared.module.Module.{Module}
-use Rattle.lua_machine.specs.View.{EngineView, value_at, slots_view, proto_at, no_proto, made_view}
+use Rattle.lua_machine.specs.View.{EngineView, value_at, slots_view, proto_at, no_proto, made_view, config_of}
 use Rattle.lua_machine.specs.Made.{AreMade, IsMadeChunk, IsEngine}
 use Rattle.lua_machine.specs.Ready.{IsCode, IsLoaded, AreFit, IsReady}
-use Rattle.lua_machine.specs.Starting.{first_state, Begins}
-use Rattle.lua_machine.proofs.Keeping.{get_in, sound_at}
+use Rattle.lua_machine.specs.Starting.{TakesAll, first_config, Begins}
+use Rattle.lua_machine.proofs.Keeping.{get_in, sound_at, loaded_later}
+use Rattle.lua_machine.proofs.Doing.{later_at}
 
 -- ---- slots that are nil
 
@@ -41,26 +44,14 @@ all_nil k = meant.nil
 slots_nil : (texts : List Bytes) (n : ℕ) → slots_view texts (replicate n Nil) ≡ all_nil
 slots_nil texts n = λ i k. value_view texts (nil_at n k i)
 
-put_nil : (at : ℕ) → put all_nil at meant.nil ≡ all_nil
-put_nil at = λ i k. by k (k == at) i
-  where
-    by : (k : ℕ) (b : Bool) → (if b then meant.nil else all_nil k) ≡ all_nil k
-    by k true = refl
-    by k false = refl
-
-values_nil : (at count : ℕ) → put_values all_nil at count [] ≡ all_nil
-values_nil at zero = refl
-values_nil at (suc count) = ap (λ (l : ℕ → meant.Value). put_values l (suc at) count []) (put_nil at) ∙ values_nil (suc at) count
-
-extra_none : (b : Bool) (n : ℕ) → extra_of b n [] ≡ []
-extra_none true zero = refl
-extra_none true (suc n) = refl
-extra_none false n = refl
+all_of : (xs : List Value) → take (length xs) xs ≡ xs
+all_of [] = refl
+all_of (x ∷ xs) = ap (λ (ys : List Value). x ∷ ys) (all_of xs)
 
 -- ---- the engine
 
-abbrev pub first_engine : HeapView → Events → Chunk → List Value → (func : ℕ) → ProtoView → (ticks : ℕ) → EngineView
-first_engine heap events chunk values func proto ticks =
+abbrev pub first_engine : HeapView → Events → Chunk → List Value → (extras : List Value) → (func : ℕ) → ProtoView → (ticks : ℕ) → EngineView
+first_engine heap events chunk values extras func proto ticks =
     record {
       heap = heap;
       events = events;
@@ -69,7 +60,7 @@ first_engine heap events chunk values func proto ticks =
       values = values;
       cells = [];
       tail = [];
-      extras = [];
+      extras = extras;
       args = [];
       frames = [];
       modules = [];
@@ -83,7 +74,7 @@ first_engine heap events chunk values func proto ticks =
     }
 
 -- the engine that was made, by its lists
-pub first_same : (heap : HeapView) (events : Events) (chunk : Chunk) (func : ℕ) (proto : ProtoView) (ticks n : ℕ) (chunks : List Chunk) (values : List Value) (cells : List ℕ) (tail extras args : List Value) (frames : List Frame) (modules : List Module) → chunks ≡ chunk ∷ [] → values ≡ replicate n Nil → cells ≡ [] → tail ≡ [] → extras ≡ [] → args ≡ [] → frames ≡ [] → modules ≡ []
+pub first_same : (heap : HeapView) (events : Events) (chunk : Chunk) (func : ℕ) (proto : ProtoView) (ticks n : ℕ) (extras : List Value) (chunks : List Chunk) (values : List Value) (cells : List ℕ) (tail args : List Value) (frames : List Frame) (modules : List Module) → chunks ≡ chunk ∷ [] → values ≡ replicate n Nil → cells ≡ [] → tail ≡ [] → args ≡ [] → frames ≡ [] → modules ≡ []
     → record {
       heap = heap;
       events = events;
@@ -103,8 +94,8 @@ pub first_same : (heap : HeapView) (events : Events) (chunk : Chunk) (func : ℕ
       cell_base = 0;
       extra_base = 0;
       ticks = ticks;
-    } ≡ first_engine heap events chunk (replicate n Nil) func proto ticks
-first_same heap events chunk func proto ticks n chunks values cells tail extras args frames modules a b d e f g h j = λ i. record {
+    } ≡ first_engine heap events chunk (replicate n Nil) extras func proto ticks
+first_same heap events chunk func proto ticks n extras chunks values cells tail args frames modules a b d e g h j = λ i. record {
   heap = heap;
   events = events;
   chunks = a i;
@@ -112,7 +103,7 @@ first_same heap events chunk func proto ticks n chunks values cells tail extras 
   values = b i;
   cells = d i;
   tail = e i;
-  extras = f i;
+  extras = extras;
   args = g i;
   frames = h i;
   modules = j i;
@@ -129,24 +120,42 @@ nils_made : (h : HeapView) (n : ℕ) → AreMade h (replicate n Nil)
 nils_made h zero = tt
 nils_made h (suc n) = (tt, nils_made h n)
 
-pub first_made : (heap : HeapView) (events : Events) (chunk : Chunk) (n func : ℕ) (proto : ProtoView) (ticks : ℕ) → AreEvents heap.texts events → IsMadeChunk heap chunk → IsEngine (first_engine heap events chunk (replicate n Nil) func proto ticks)
-first_made heap events chunk n func proto ticks named made =
-    record {
+-- what was made before the arguments came is there
+pub first_made : (before heap : HeapView) (events : Events) (chunk : Chunk) (n : ℕ) (extras : List Value) (func : ℕ) (proto : ProtoView) (ticks : ℕ) → Extends before heap → AreEvents before.texts events → IsMadeChunk before chunk → AreMade heap extras → IsEngine (first_engine heap events chunk (replicate n Nil) extras func proto ticks)
+first_made before heap events chunk n extras func proto ticks more named made all =
+    let first : EngineView = first_engine before events chunk (replicate n Nil) [] func proto ticks in
+    let is : IsEngine first = record {
       events = named;
       extra = omega arith;
       below = tt;
-      values = nils_made heap n;
+      values = nils_made before n;
       tail = tt;
       extras = tt;
       args = tt;
       cells = tt;
       chunks = (made, tt);
       modules = tt;
+    } in
+    let later = later_at first heap first.pc more is in
+    record {
+      events = later.events;
+      extra = omega arith;
+      below = tt;
+      values = nils_made heap n;
+      tail = tt;
+      extras = all;
+      args = tt;
+      cells = tt;
+      chunks = later.chunks;
+      modules = tt;
     }
 
-module _ (heap : HeapView) (events : Events) (chunk : Chunk) (n func ticks : ℕ) (proto : ProtoView) (loaded : IsLoaded heap.texts chunk) (none : heap.functions ≡ []) (last : func ≡ length chunk.code.now - 1) (is : proto ≡ proto_at (chunk ∷ []) 0 func) where
+pub loaded_now : (before heap : HeapView) (chunk : Chunk) → Extends before heap → IsMadeChunk before chunk → IsLoaded before.texts chunk → IsLoaded heap.texts chunk
+loaded_now before heap chunk more made loaded = (loaded_later before heap more (chunk ∷ []) (made, tt) (loaded, tt)).0
+
+module _ (heap : HeapView) (events : Events) (chunk : Chunk) (n : ℕ) (extras : List Value) (func ticks : ℕ) (proto : ProtoView) (loaded : IsLoaded heap.texts chunk) (none : heap.functions ≡ []) (last : func ≡ length chunk.code.now - 1) (is : proto ≡ proto_at (chunk ∷ []) 0 func) where
   abbrev m : EngineView
-  m = first_engine heap events chunk (replicate n Nil) func proto ticks
+  m = first_engine heap events chunk (replicate n Nil) extras func proto ticks
 
   fit : AreFit m
   fit = record { frames = tt; functions = subst (AllByRecursion (IsCode (chunk ∷ []))) (sym none) tt; chunks = (loaded, tt) }
@@ -184,29 +193,23 @@ module _ (heap : HeapView) (events : Events) (chunk : Chunk) (n func ticks : ℕ
       length-replicate zero = refl
       length-replicate (suc n) = ap suc (length-replicate n)
 
-  pub first_begins : store_of heap ≡ first_store 1 → Begins chunk.code.now ticks m
-  first_begins store past =
-      ap (λ (slots : ℕ → meant.Value). config slots [] (store_of heap) (map (made_view (chunk ∷ [])) heap.functions)) (slots_nil heap.texts n ∙ sym (values_nil 0 (i.params_of code)))
-      ∙ ap (λ extra. config slots_then extra (store_of heap) (map (made_view (chunk ∷ [])) heap.functions)) (sym (extra_none (i.is_vararg code) (i.params_of code)))
-      ∙ ap (λ s. config slots_then extra_then s (map (made_view (chunk ∷ [])) heap.functions)) store
-      ∙ ap (λ (fs : List Function). config slots_then extra_then (first_store 1) (map (made_view (chunk ∷ [])) fs)) none
-      ∙ ap (λ k. begun (runs (code_at chunk.code.now k) []) [] [] 0 0 no_registers (first_state ticks past)) last
+  pub first_begins : (values : List meant.Value) (store : Store) → map (value_view heap.texts) extras ≡ values → store_of heap ≡ store → TakesAll (chunk_of chunk.code.now) → config_of no_past m ≡ first_config (chunk_of chunk.code.now) (values, store) ticks
+  first_begins values store given made takes =
+      ap (λ (slots : ℕ → meant.Value). config (code_at chunk.code.now func) slots (map (value_view heap.texts) (take (length extras) extras)) (store_of heap) (map (made_view (chunk ∷ [])) heap.functions)) (slots_nil heap.texts n)
+      ∙ ap (λ (vs : List Value). config (code_at chunk.code.now func) all_nil (map (value_view heap.texts) vs) (store_of heap) (map (made_view (chunk ∷ [])) heap.functions)) (all_of extras)
+      ∙ ap (λ (vs : List meant.Value). config (code_at chunk.code.now func) all_nil vs (store_of heap) (map (made_view (chunk ∷ [])) heap.functions)) given
+      ∙ ap (λ (s : Store). config (code_at chunk.code.now func) all_nil values s (map (made_view (chunk ∷ [])) heap.functions)) made
+      ∙ ap (λ (fs : List Function). config (code_at chunk.code.now func) all_nil values store (map (made_view (chunk ∷ [])) fs)) none
+      ∙ ap (λ k. config (code_at chunk.code.now k) all_nil values store []) last
+      ∙ sym (ap (λ p. config (chunk_of chunk.code.now) (put_values all_nil 0 p values) (extra_of (i.is_vararg (chunk_of chunk.code.now)) p values) store []) takes.params
+      ∙ ap (λ v. config (chunk_of chunk.code.now) all_nil (extra_of v 0 values) store []) takes.varargs)
     where
-      code : i.Proto
-      code = code_at chunk.code.now func
-
-      slots_then : ℕ → meant.Value
-      slots_then = put_values all_nil 0 (i.params_of code) []
-
-      extra_then : List meant.Value
-      extra_then = extra_of (i.is_vararg code) (i.params_of code) []
-
-      config : (ℕ → meant.Value) → List meant.Value → Store → List Made → Config
-      config slots extra s made = record {
+      config : i.Proto → (ℕ → meant.Value) → List meant.Value → Store → List Made → Config
+      config code slots extra s made = record {
         active = lua (record { code = code; pc = 0; base = 0; cell_base = 0; extra = extra });
         frames = [];
         registers = record { slots = slots; cells = λ n. 0; tail = [] };
-        state = record { store = s; functions = made; modules = []; output = past.output; ends = past.ends; ticks = ticks; asks = past.asks };
+        state = record { store = s; functions = made; modules = []; output = []; ends = []; ticks = ticks; asks = [] };
       }
 
 -- an item of a list that has it

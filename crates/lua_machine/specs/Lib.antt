@@ -27,3 +27,7 @@ pub mod Basics
 pub mod Texts
 pub mod Printing
 pub mod Requiring
+pub mod Ending
+pub mod Standing
+pub mod Session
+pub mod Machine

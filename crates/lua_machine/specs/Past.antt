@@ -1,12 +1,7 @@
 -- What a machine of the definitions holds and the engine doesn't.
-use Rattle.std.specs.Prelude.{ℕ, List, []}
-use Rattle.lua_meaning.specs.Message.{Ask}
+use Rattle.std.specs.Prelude.{[]}
+use Rattle.lua_code.specs.Growing.{Past as what_was_done}
+pub use Rattle.lua_code.specs.Growing.{Past}
 
--- the asks that were answered, the output, and its length after each print
-pub record Past : Type 0 where
-  pub asks : List Ask
-  pub output : List ℕ
-  pub ends : List ℕ
-
-abbrev pub no_past : Past
+abbrev pub no_past : what_was_done
 no_past = record { asks = []; output = []; ends = [] }

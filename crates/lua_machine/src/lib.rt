@@ -2,6 +2,7 @@
 #![tactic(auto)]
 
 mod arguments;
+mod ask_copy;
 mod asking;
 mod back;
 mod basics;
@@ -11,6 +12,7 @@ mod chunk;
 mod closures;
 mod delivering;
 mod each;
+mod ending;
 mod engine;
 mod entering;
 mod errand;
@@ -24,6 +26,7 @@ mod items;
 mod jumps;
 mod loading;
 mod loops;
+mod machine;
 mod module;
 mod moves;
 mod numbers;
@@ -35,7 +38,9 @@ mod registers;
 mod requiring;
 mod results;
 mod serving;
+mod session;
 mod setting;
+mod standing;
 mod starting;
 mod status;
 mod steps;
@@ -43,3 +48,5 @@ mod tables;
 #[cfg(test)]
 mod tests;
 mod texts;
+
+pub use machine::{Machine, Step};

@@ -64,11 +64,12 @@ fn a_loop_ends_or_runs_out_of_ticks(rt: HostRuntime) -> Result<(), Memory> {
     let program = Program {
         files: List::new(alloc),
     };
-    let mut engine = Engine::begin(alloc, &code, 3)?;
+    let args = List::new(alloc);
+    let mut engine = Engine::begin(alloc, &code, &args, 3, 1)?;
     let pause = engine.run(&program, 1, Status::Goes)?;
     assert!(rt; matches!(pause, Pause::Ended));
     assert!(rt; engine.args.len() == 1);
-    let mut short = Engine::begin(alloc, &code, 2)?;
+    let mut short = Engine::begin(alloc, &code, &args, 2, 1)?;
     let pause = short.run(&program, 1, Status::Goes)?;
     assert!(rt; matches!(pause, Pause::NoTick));
     Ok(())
@@ -118,7 +119,8 @@ fn a_numeric_loop_takes_a_tick_for_each_turn(rt: HostRuntime) -> Result<(), Memo
     let program = Program {
         files: List::new(alloc),
     };
-    let mut engine = Engine::begin(alloc, &code, 3)?;
+    let args = List::new(alloc);
+    let mut engine = Engine::begin(alloc, &code, &args, 3, 1)?;
     let pause = engine.run(&program, 1, Status::Goes)?;
     assert!(rt; matches!(pause, Pause::Ended));
     assert!(rt; engine.ticks == 0);
