@@ -89,8 +89,16 @@ fn error_of(alloc: Global, board: &Board, by: Stamp, thread: u32) -> Result<Give
     given_by_words(alloc, board.error_of(thread))
 }
 
-// What an ask comes to at the board.
-pub(crate) fn answer_on_board(
+/// What an ask comes to at the board. The ask is one that is answered at once: any about the board but
+/// the wait for a Thread. The state adds an entry only where it has begun and has done nothing later
+/// at the board; that is tested by reading the history from its end back to the last entry of the
+/// state.
+///
+/// # Errors
+///
+/// [`Memory`] where there is no room, and where the state may not add an entry. The board is as it
+/// was.
+pub fn answer_on_board(
     alloc: Global,
     board: &mut Board,
     by: Stamp,

@@ -27,6 +27,7 @@ mod turns;
 mod unanswered;
 mod watching;
 
+pub use board_deeds::answer_on_board;
 pub use deeds::answer_ask;
 pub use fault::ActFault;
 pub use given::Given;

@@ -1,1 +1,16 @@
+mod Acting
+mod Beginning
+mod Boarding
+mod Closing
+mod Events
+mod Fitting
+mod Growing
+mod Keeping
+mod Leaving
+mod Lists
 mod Made
+mod Owning
+mod Repeating
+mod Sounding
+mod Tables
+mod Turns

@@ -10,7 +10,8 @@ use Rattle.lua_code.specs.Natives as code
 use Rattle.lua_code.specs.declared.program.FileCode.{FileCode}
 use Rattle.lua_code.specs.declared.program.FileCode.TheVariants.{Ready, Faulty, NotLua}
 use Rattle.lua_state.specs.Faults.{source_text}
-use Rattle.lua_state.specs.Programs.{is_lua, IsChunk, IsCompiled, IsMadeOf, code_view}
+use Rattle.lua_state.specs.Programs.{is_lua, IsChunk, IsCompiled, IsMadeOf}
+use Rattle.lua_code.specs.Held.{file_code_view}
 
 module _ (path : Bytes) (source : List ℕ) (named : is_lua path ≡ true) where
   chunk-made : (b : Block) → IsChunk source b → (made : FileCode) → IsCompiled path b made → IsMadeOf path source made
@@ -31,6 +32,6 @@ module _ (path : Bytes) (source : List ℕ) (named : is_lua path ≡ true) where
       record {
         meant = control.faulty (source_text path fault);
         is = (named, inl (fault, found, some, refl));
-        code = ap code_view is;
+        code = ap file_code_view is;
       }
   fault-result fault found (Err e) some is = is

@@ -1,2 +1,9 @@
 pub mod Faults
 pub mod Programs
+pub mod Solo
+pub mod Cuts
+pub mod Runs
+pub mod Answered
+pub mod Kept
+pub mod Played
+pub mod Leaving

@@ -1,5 +1,5 @@
 -- The programs that the files of a game's folder are.
-use Rattle.std.specs.Prelude.{◌≡◌, ◌≢◌, ◌-◌, ℕ, Bool, true, false, List, [], ◌⊎◌, length, drop, Some, None, bytes_eq, codes}
+use Rattle.std.specs.Prelude.{◌≡◌, ◌≢◌, ◌-◌, ℕ, Bool, true, false, if◌then◌else◌, List, [], ◌∷◌, ◌⊎◌, length, drop, Option, Some, None, bytes_eq, codes}
 use Rattle.love_base.specs.Data.{Contents}
 use Rattle.lua_tree.specs.Tree.{Bytes, Block}
 use Rattle.lua_tree.specs.Words.{Tok}
@@ -13,8 +13,8 @@ use Rattle.lua_meaning.specs.Control.{Code, ready, faulty, not_lua}
 use Rattle.lua_upvalues.specs.Upvalues.{block_fault}
 use Rattle.lua_code.specs.Code.{chunk_code}
 use Rattle.lua_code.specs.Trees.{chunk_of}
-use Rattle.lua_code.specs.Natives as code
 use Rattle.lua_code.specs.Follows.{file_code}
+use Rattle.lua_code.specs.Held.{file_code_view}
 use Rattle.lua_code.specs.declared.program.File as declared
 use Rattle.lua_code.specs.declared.program.FileCode.{FileCode}
 use Rattle.lua_code.specs.declared.program.FileCode.TheVariants as variants
@@ -48,20 +48,11 @@ IsCodeOf path source not_lua = is_lua path ≡ false
 
 -- ---- the programs that are made of them
 
-abbrev pub code_view : FileCode → code.FileCode
-code_view (variants.Ready c) = code.ready (chunk_of c)
-code_view (variants.Faulty text) = code.faulty text
-code_view variants.NotLua = code.not_lua
-
-abbrev pub file_view : declared.File → code.File
-file_view file =
-    record { path = file.name; bytes = file.content.bytes; code = code_view file.code }
-
 -- this is the code of what a file is
 pub record IsMadeOf (path : Bytes) (source : List ℕ) (made : FileCode) : Type 0 where
   pub meant : Code
   pub is : IsCodeOf path source meant
-  pub code : code_view made ≡ file_code path meant
+  pub code : file_code_view made ≡ file_code path meant
 
 -- so is this of a chunk
 abbrev pub IsCompiled : (path : Bytes) → Block → FileCode → Type 0
@@ -77,3 +68,13 @@ IsBuilt file = IsMadeOf file.name file.content.bytes file.code
 -- the name and the bytes of a file
 abbrev pub given : declared.File → Bytes × Contents
 given file = (file.name, file.content)
+
+-- ---- the main program
+
+abbrev pub main_name : Bytes
+main_name = codes "main.lua"
+
+-- the first file of its name
+abbrev pub main_of : List declared.File → Option declared.File
+main_of [] = None
+main_of (file ∷ files) = if bytes_eq file.name main_name then Some file else main_of files

@@ -1,3 +1,5 @@
+mod rows;
+
 use crate::build;
 use love_base::{Data, Memory, Text};
 use lua_code::{FileCode, Program};
