@@ -5,12 +5,15 @@
 # What the program says on standard error at each status.
 declare -A said=(
     [0]=''
-    [64]='love_run: usage: love_run FOLDER'
+    [64]='love_run: usage: love_run FOLDER [--frames N] [--steps N] [--workers N] [--trace]'
     [65]='love_run: no main.lua'
     [66]="love_run: the folder can't be read"
     [67]="love_run: the output can't be written"
-    [69]="love_run: main.lua isn't of the form that is read yet"
+    [68]='love_run: the game is too large'
+    [69]='love_run: the game waits for a thread'
     [70]='love_run: out of memory'
+    [71]=''
+    [72]=''
 )
 
 passed=0

@@ -1,10 +1,7 @@
-pub mod Cutting
-pub mod Forms
+pub mod Digits
 pub mod Loading
-pub mod Once
+pub mod MainFile
 pub mod OneFile
-pub mod Order
-pub mod Reading
-pub mod Running
-pub mod Splitting
+pub mod Outcomes
+pub mod Steps
 pub mod Writing

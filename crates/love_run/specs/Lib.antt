@@ -1,5 +1,5 @@
 pub mod Command
 pub mod Ending
+pub mod Game
 pub mod Outcome
-pub mod Program
-pub mod Run
+pub mod Rendering

@@ -1,32 +1,31 @@
-ghost use Rattle.std.specs.Prelude.{◌≡◌, ◌+◌, ◌++◌, ◌<◌, ◌≤◌, ◌↔◌, ◌⊎◌, ℕ, List, length, IfSome};
+ghost use Rattle.std.specs.Prelude.{◌≡◌, ◌+◌, ◌++◌, ◌<◌, ◌≤◌, ◌↔◌, ◌⊎◌, ◌∷◌, [], ℕ, List, map, vec_capacity, Option, IfSome, IsErrOf, OnOk};
 ghost use Rattle.std.specs.Option.{option_map};
+ghost use Rattle.std.specs.List.{AllByRecursion};
 ghost use Rattle.love_base.specs.Fault.{HasRisen};
 ghost use Rattle.love_base.specs.Prefix.{IsPrefix};
-ghost use Rattle.channel_core.specs.History.{front};
-ghost use Rattle.channel_core.specs.Lawful.{entry_limit};
-ghost use Rattle.love_run.specs.Command.{folder_named, IsCommand};
-ghost use Rattle.love_run.specs.Ending.{code_of};
-ghost use Rattle.love_run.specs.Outcome.{run_ending, HasNoMain, HasOtherForm, HasProgram, IsGame, IsStatus, RanInPart, RanNothing, RanWhole, SaysNothingRan, SaysRanWhole};
-ghost use Rattle.love_run.specs.Program.{IsProgram};
-ghost use Rattle.love_run.specs.Run.{history, popped, pushed};
-ghost use Rattle.love_run.specs.declared.statement.Statement.{Statement};
+ghost use Rattle.lua_state.specs.Programs.{IsBuilt, given};
+ghost use Rattle.lua_state.specs.Runs.{HasMain};
+ghost use Rattle.love_run.specs.Command.{Line, settings};
+ghost use Rattle.love_run.specs.Ending.{IsStatus, SaysNothingRan, SaysWritten, code_of, run_status};
+ghost use Rattle.love_run.specs.Game.{HasNoMain, IsTooLarge, most_files};
+ghost use Rattle.love_run.specs.Outcome.{HasRun, IsUnbegun, RanOn, folder_named};
+ghost use Rattle.love_run.specs.Rendering.{rendering};
 
-use crate::command::folder_of;
+use crate::command::read_command;
 use crate::ending::Ending;
 use crate::load::load;
+use crate::rendering::render;
 use crate::report::Report;
-use crate::run::run;
-use crate::statement::Statement;
 use crate::writer::write_all;
-use channel_core::Channel;
 use love_base::{Folder, List, Memory, Sink, SinkErr, Text};
+use lua_code::Program;
+use lua_state::{Alone, StateRecord, run_alone};
 use std::alloc::Global;
 
 /// Reads a game, runs it and writes what it prints: all that the program does.
 ///
 /// `words` are those after the program's name. docs/COMMAND.md has the statuses that a report can
 /// have.
-#[tactic(auto, using(crate::proofs::Once::one_program, crate::proofs::Order::popped_first, crate::proofs::Order::drained))]
 pub fn love<F: Folder, S: Sink>(
     alloc: Global,
     words: &[Text],
@@ -35,9 +34,11 @@ pub fn love<F: Folder, S: Sink>(
 ) -> Report
     // What each status says.
     ensures status { IsStatus result.status }
-    ensures usage { (result.status ≡ code_of Ending.Usage) ↔ ¬ IsCommand words.now }
+    ensures usage { (result.status ≡ code_of Ending.Usage) ↔ (settings words.now ≡ Option.None) }
     ensures no_main { result.status ≡ code_of Ending.NoMain
         → IfSome (F.files folder.old (folder_named words.now)) HasNoMain }
+    ensures too_large { result.status ≡ code_of Ending.TooLarge
+        → IfSome (F.files folder.old (folder_named words.now)) IsTooLarge }
     ensures folder_fault { result.status ≡ code_of Ending.Unreadable
         → HasRisen (F.faults folder.old) (F.faults folder.new) }
     ensures folder_fault_told { F.faults folder.old < F.faults folder.new
@@ -45,106 +46,118 @@ pub fn love<F: Folder, S: Sink>(
     ensures output_fault { result.status ≡ code_of Ending.Unwritten
         → HasRisen (S.faults sink.old) (S.faults sink.new) }
     ensures output_fault_told { S.faults sink.old < S.faults sink.new
-        → (result.status ≡ code_of Ending.Unwritten)
-        ⊎ ((result.status ≡ code_of Ending.OutOfMemory) × ((program : List Statement)
-        × IsGame (F.files folder.old) words.now program
-        × RanInPart program result.out result.channels)) }
-    ensures out_of_form { result.status ≡ code_of Ending.OutOfForm
-        → IfSome (F.files folder.old (folder_named words.now)) HasOtherForm }
+        → result.status ≡ code_of Ending.Unwritten }
+    ensures ended { SaysWritten result.status → result.status ≡ run_status result.states }
 
-    // What was printed, and what became of the Channel.
-    ensures ran_whole { SaysRanWhole result.status → (program : List Statement)
-        × IsGame (F.files folder.old) words.now program
-        × RanWhole program result.out result.channels }
-    ensures ran_in_part { result.status ≡ code_of Ending.OutOfMemory
-        → RanNothing result.out result.channels ⊎ ((program : List Statement)
-        × IsGame (F.files folder.old) words.now program
-        × (RanInPart program result.out result.channels
-        ⊎ RanWhole program result.out result.channels)) }
-    ensures ran_nothing { SaysNothingRan result.status → RanNothing result.out result.channels }
+    // Whether the game ran, and that its run is lawful.
+    ensures ran { SaysWritten result.status ⊎ (result.status ≡ code_of Ending.Unwritten)
+        → HasRun (F.files folder.old (folder_named words.now)) words.now
+        result.states result.channels result.board }
+    ensures ran_or_not { result.status ≡ code_of Ending.OutOfMemory
+        → IsUnbegun result.states result.channels result.board
+        ⊎ HasRun (F.files folder.old (folder_named words.now)) words.now
+        result.states result.channels result.board }
+    ensures nothing_ran { SaysNothingRan result.status
+        → IsUnbegun result.states result.channels result.board }
 
     // What was written.
-    ensures written { result.status ≡ code_of Ending.Done
-        → S.taken sink.new ≡ option_map (λ before. before ++ result.out) (S.taken sink.old) }
-    ensures written_in_part { (sent : List ℕ) × IsPrefix sent result.out
+    ensures written { SaysWritten result.status → S.taken sink.new
+        ≡ option_map (λ before. before ++ rendering result.states) (S.taken sink.old) }
+    ensures written_in_part { (sent : List ℕ) × IsPrefix sent (rendering result.states)
         × (S.taken sink.new ≡ option_map (λ before. before ++ sent) (S.taken sink.old)) }
     ensures wrote_nothing { SaysNothingRan result.status → S.taken sink.new ≡ S.taken sink.old }
 
-    // Where no fault happens and the game has the form that is read, it runs and all is written.
-    ensures complete { IsCommand words.now
+    // Where no fault happens, a game within the limits runs and all is written.
+    ensures complete { (line : Line) → settings words.now ≡ Option.Some line
         → ¬ HasRisen (F.faults folder.old) (F.faults folder.new)
         → ¬ HasRisen (S.faults sink.old) (S.faults sink.new)
         → IfSome (F.files folder.old (folder_named words.now)) (λ files.
-        (program : List Statement) → HasProgram files program
-        → (result.status ≡ code_of Ending.Done) ⊎ (result.status ≡ code_of Ending.OutOfMemory)) }
-
-    // A source is that of at most one program.
-    ensures one_program { (source : List ℕ) (one other : List Statement)
-        → IsProgram source one → IsProgram source other → one ≡ other }
-
-    // Of any program: it pops the first messages that it pushed, in that order; and a pop gives
-    // `nil` exactly where all that were pushed before it were popped.
-    ensures first_in_first_out { (program : List Statement)
-        → IsPrefix (popped program) (pushed program) }
-    ensures nil_where_drained { (before : List Statement)
-        → (front (history before) ≡ None) ↔ (popped before ≡ pushed before) }
+        ¬ HasNoMain files → ¬ IsTooLarge files
+        → SaysWritten result.status ⊎ (result.status ≡ code_of Ending.OutOfMemory)) }
 
     // What stays as it was.
     ensures kept { F.files folder.new ≡ F.files folder.old }
-    ensures calls { F.calls folder.new ≤ F.calls folder.old + 2 }
+    ensures calls { F.calls folder.new ≤ F.calls folder.old + (most_files + 1) }
 {
-    let Some(at) = folder_of(words) else {
+    let Some(command) = read_command(words) else {
         return Report::unbegun(alloc, Ending::Usage);
     };
-    match load(alloc, at, folder) {
-        Ok(statements) => play(alloc, statements.as_slice(), sink),
-        Err(fault) => Report::unbegun(alloc, fault.ending()),
+    match load(alloc, command.folder, folder) {
+        Ok(program) => play(alloc, &program, command.steps, sink),
+        Err(fault) => Report::unbegun(alloc, Ending::unloaded(fault)),
     }
 }
 
-// Runs a program and writes what it printed, also where it was cut short.
-fn play<S: Sink>(alloc: Global, program: &[Statement], sink: &mut S) -> Report
-    requires { length program.now < entry_limit }
-    ensures status { SaysRanWhole result.status ⊎ (result.status ≡ code_of Ending.OutOfMemory) }
+// Runs a game and writes what is to be written of it.
+fn play<S: Sink>(alloc: Global, program: &Program, steps: u32, sink: &mut S) -> Report
+    requires built { AllByRecursion IsBuilt program.now.files }
+    requires main { HasMain (map given program.now.files) }
+    requires steps { steps ≤ 1000000000 }
+    ensures status { SaysWritten result.status ⊎ (result.status ≡ code_of Ending.Unwritten)
+        ⊎ (result.status ≡ code_of Ending.OutOfMemory) }
     ensures failed { result.status ≡ code_of Ending.Unwritten
         → HasRisen (S.faults sink.old) (S.faults sink.new) }
     ensures told { S.faults sink.old < S.faults sink.new
-        → (result.status ≡ code_of Ending.Unwritten)
-        ⊎ ((result.status ≡ code_of Ending.OutOfMemory)
-        × RanInPart program.now result.out result.channels) }
-    ensures ran_whole { SaysRanWhole result.status
-        → RanWhole program.now result.out result.channels }
-    ensures ran_in_part { result.status ≡ code_of Ending.OutOfMemory
-        → RanNothing result.out result.channels
-        ⊎ RanInPart program.now result.out result.channels
-        ⊎ RanWhole program.now result.out result.channels }
-    ensures written { result.status ≡ code_of Ending.Done
-        → S.taken sink.new ≡ option_map (λ before. before ++ result.out) (S.taken sink.old) }
-    ensures written_in_part { (sent : List ℕ) × IsPrefix sent result.out
+        → result.status ≡ code_of Ending.Unwritten }
+    ensures ended { SaysWritten result.status → result.status ≡ run_status result.states }
+    ensures ran { SaysWritten result.status ⊎ (result.status ≡ code_of Ending.Unwritten)
+        → RanOn (map given program.now.files) steps result.states result.channels result.board }
+    ensures ran_or_not { IsUnbegun result.states result.channels result.board
+        ⊎ RanOn (map given program.now.files) steps result.states result.channels result.board }
+    ensures written { SaysWritten result.status → S.taken sink.new
+        ≡ option_map (λ before. before ++ rendering result.states) (S.taken sink.old) }
+    ensures written_in_part { (sent : List ℕ) × IsPrefix sent (rendering result.states)
         × (S.taken sink.new ≡ option_map (λ before. before ++ sent) (S.taken sink.old)) }
 {
-    let Ok(mut channels) = Vec::with_capacity(alloc, 1) else {
+    let Ok(states) = Vec::with_capacity(alloc, 1) else {
         return Report::unbegun(alloc, Ending::OutOfMemory);
     };
-    let mut channel = Channel::new(alloc);
-    let mut out = Vec::new(alloc);
-    let ran = run(alloc, program, &mut channel, &mut out);
-    let written = write_all(sink, out.as_slice());
-    channels.push(channel).unwrap();
-    Report {
-        status: ending(ran, written).code(),
-        out: Text::from_vec(out),
-        channels: List::from_vec(channels),
+    match run_alone(alloc, program, steps) {
+        Ok(alone) => tell(alloc, alone, states, sink),
+        Err(Memory) => Report::unbegun(alloc, Ending::OutOfMemory),
     }
 }
 
-// How the program ends after a run and its writing.
-fn ending(ran: Result<(), Memory>, written: Result<(), SinkErr>) -> Ending
-    ensures { result ≡ run_ending ran written }
+// Writes what is to be written of a run. Its record goes into `states`, which has room for it.
+fn tell<S: Sink>(alloc: Global, alone: Alone, mut states: Vec<StateRecord>, sink: &mut S) -> Report
+    requires empty { states.items ≡ [] }
+    requires room { 0 < vec_capacity states }
+    ensures states { result.states ≡ alone.ran ∷ [] }
+    ensures channels { result.channels ≡ alone.channels }
+    ensures board { result.board ≡ alone.board }
+    ensures status { SaysWritten result.status ⊎ (result.status ≡ code_of Ending.Unwritten)
+        ⊎ (result.status ≡ code_of Ending.OutOfMemory) }
+    ensures failed { result.status ≡ code_of Ending.Unwritten
+        → HasRisen (S.faults sink.old) (S.faults sink.new) }
+    ensures told { S.faults sink.old < S.faults sink.new
+        → result.status ≡ code_of Ending.Unwritten }
+    ensures ended { SaysWritten result.status → result.status ≡ run_status result.states }
+    ensures written { SaysWritten result.status → S.taken sink.new
+        ≡ option_map (λ before. before ++ rendering result.states) (S.taken sink.old) }
+    ensures written_in_part { (sent : List ℕ) × IsPrefix sent (rendering result.states)
+        × (S.taken sink.new ≡ option_map (λ before. before ++ sent) (S.taken sink.old)) }
 {
-    match (ran, written) {
-        (Err(_), _) | (Ok(()), Err(SinkErr::Memory)) => Ending::OutOfMemory,
-        (Ok(()), Err(SinkErr::Failed)) => Ending::Unwritten,
-        (Ok(()), Ok(())) => Ending::Done,
+    let ending = Ending::of_run(&alone.ran.end);
+    states.push(alone.ran).unwrap();
+    let written = write_states(alloc, states.as_slice(), sink);
+    Report {
+        status: ending.after(written).code(),
+        states: List::from_vec(states),
+        channels: alone.channels,
+        board: alone.board,
     }
+}
+
+// Writes what is to be written of these states.
+fn write_states<S: Sink>(alloc: Global, states: &[StateRecord], sink: &mut S) -> Result<(), SinkErr>
+    ensures all { OnOk result (S.taken sink.new
+        ≡ option_map (λ before. before ++ rendering states.now) (S.taken sink.old)) }
+    ensures part { (sent : List ℕ) × IsPrefix sent (rendering states.now)
+        × (S.taken sink.new ≡ option_map (λ before. before ++ sent) (S.taken sink.old)) }
+    ensures failed { IsErrOf result SinkErr.Failed
+        → HasRisen (S.faults sink.old) (S.faults sink.new) }
+    ensures told { S.faults sink.old < S.faults sink.new → IsErrOf result SinkErr.Failed }
+{
+    let bytes = render(alloc, states)?;
+    write_all(sink, bytes.as_slice())
 }

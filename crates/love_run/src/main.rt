@@ -1,17 +1,21 @@
-//! `love_run FOLDER`: runs the game in a folder, and prints what it prints.
+//! `love_run FOLDER [--frames N] [--steps N] [--workers N]`: runs the game in a folder, and prints
+//! what it prints.
 //!
 //! [`love`] does all of it; `main` takes the words, makes the real folder and output, calls it,
 //! says what its status means and ends with it.
 #![tactic(auto)]
 
 mod command;
+mod command_option;
 mod ending;
+mod files;
 mod load;
+mod load_fault;
 mod love;
-mod reader;
+mod names;
+mod rendering;
 mod report;
-mod run;
-mod statement;
+mod said;
 #[cfg(test)]
 mod tests;
 mod words;

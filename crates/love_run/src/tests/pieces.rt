@@ -1,9 +1,7 @@
 ghost use Rattle.std.specs.Prelude.{Option};
 
-use super::{folder, words};
-use crate::{Ending, love};
+use crate::writer::write_all;
 use love_base::{MemSink, Sink, SinkErr};
-use std::alloc::Global;
 use std::test::Fail;
 
 // A sink that takes each piece whole and keeps the sizes.
@@ -25,51 +23,36 @@ impl Sink for Sizes {
     }
 }
 
-// A source that prints so many lines of 64 bytes each, and then what `last` prints.
-fn source_of(alloc: Global, lines: usize, last: &[u8]) -> Result<Vec<u8>, Fail> {
-    let mut source = Vec::new(alloc);
-    for _ in 0..lines {
-        source.extend_from_slice(b"print(\"")?;
-        source.extend_from_slice(&[b'a'; 63])?;
-        source.extend_from_slice(b"\")\n")?;
-    }
-    source.extend_from_slice(last)?;
-    Ok(source)
-}
-
 // Each piece is the next 4,096 bytes, or all that are left.
 #[test]
 fn pieces_have_4096_bytes(rt: HostRuntime) -> Result<(), Fail> {
-    let rows: [(usize, &[u8], &[usize]); 4] = [
-        (0, b"", &[]),
-        (64, b"", &[4096]),
-        (64, b"print(\"\")", &[4096, 1]),
-        (200, b"", &[4096, 4096, 4096, 512]),
+    let rows: [(usize, &[usize]); 4] = [
+        (0, &[]),
+        (4096, &[4096]),
+        (4097, &[4096, 1]),
+        (12800, &[4096, 4096, 4096, 512]),
     ];
-    for (lines, last, sizes) in rows {
-        let words = words(rt.alloc(), &[b"game"])?;
-        let source = source_of(rt.alloc(), lines, last)?;
-        let mut folder = folder(rt.alloc(), b"main.lua", source.as_slice(), &[])?;
+    for (length, sizes) in rows {
+        let out = vec![in rt.alloc(); b'a'; length]?;
         let mut sink = Sizes {
             sizes: Vec::new(rt.alloc()),
         };
-        let report = love(rt.alloc(), words.as_slice(), &mut folder, &mut sink);
-        assert_eq!(rt; report.status, Ending::Done.code());
+        assert!(rt; write_all(&mut sink, out.as_slice()).is_ok());
         assert_eq!(rt; sink.sizes.as_slice(), sizes);
     }
     Ok(())
 }
 
-// A sink that takes one byte at a time gets all of 10,000 bytes.
+// A sink that takes one byte at a time gets all of 10,000 bytes; one whose second call fails gets
+// what it took before.
 #[test]
-fn every_byte_is_written(rt: HostRuntime) -> Result<(), Fail> {
-    let words = words(rt.alloc(), &[b"game"])?;
-    let source = source_of(rt.alloc(), 156, b"print(\"fifteen letters\")")?;
-    let mut folder = folder(rt.alloc(), b"main.lua", source.as_slice(), &[])?;
+fn bytes_go_in_order(rt: HostRuntime) -> Result<(), Fail> {
+    let out = vec![in rt.alloc(); b'a'; 10_000]?;
     let mut sink = MemSink::new(rt.alloc(), 1, Vec::new(rt.alloc()));
-    let report = love(rt.alloc(), words.as_slice(), &mut folder, &mut sink);
-    assert_eq!(rt; report.status, Ending::Done.code());
-    assert_eq!(rt; sink.taken().len(), 10_000);
-    assert_eq!(rt; sink.taken(), report.out.bytes());
+    assert!(rt; write_all(&mut sink, out.as_slice()).is_ok());
+    assert_eq!(rt; sink.taken(), out.as_slice());
+    let mut failing = MemSink::new(rt.alloc(), 3, vec![in rt.alloc(); 2]?);
+    assert!(rt; write_all(&mut failing, b"hello\n") == Err(SinkErr::Failed));
+    assert_eq!(rt; failing.taken(), b"hel".as_slice());
     Ok(())
 }

@@ -1,4 +1,0 @@
-
-print("the last line")
-
-print("has no newline")
